@@ -1,6 +1,7 @@
 """Times pairs anywhere: bench/far.py PROGRAM GRAPH PAIRS NAME. Means of pairs, in milliseconds.
 
-Sessions by landmarks and without are asked in turn, and must answer the same.
+Sessions by landmarks, by a hierarchy and without either are asked in turn, and must answer the same. The hierarchy is made
+before the first pair, if the graph has one.
 """
 
 import random
@@ -66,7 +67,12 @@ def main():
     n, tails, heads, weights = columns_of(path)
     draw = random.Random(3)
     pairs = [(int(tails[draw.randrange(len(tails))]), draw.randrange(n)) for _ in range(int(count))]
-    sessions = {"landmarks": Session(program, 1, graph), "none": Session(program, 1, graph, "--landmarks", "0")}
+    means = {
+        "landmarks": ["--hierarchy", "no"],
+        "hierarchy": ["--hierarchy", "now"],
+        "none": ["--landmarks", "0", "--hierarchy", "no"],
+    }
+    sessions = {mode: Session(program, 1, graph, *options) for mode, options in means.items()}
     times = {mode: [] for mode in sessions}
     for source, target in pairs:
         request = b"p aux sp p2p 1\nq %d %d\n" % (source + 1, target + 1)

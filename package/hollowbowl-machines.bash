@@ -4,7 +4,7 @@ _hollowbowl_machines() {
     if [[ $COMP_CWORD == 1 ]]; then
         choices="section parts part missing by_parallel by_slurm by_dask.py renew"
     elif [[ $word == -* && ${COMP_WORDS[1]} =~ ^(parts|renew)$ ]]; then
-        choices="--answer --walks --within --labels --totals --workers --at-once --landmarks --shift --chunk"
+        choices="--answer --walks --within --labels --totals --workers --at-once --landmarks --hierarchy --shift --chunk"
     fi
     mapfile -t COMPREPLY < <(compgen -W "$choices" -- "$word")
     if [[ $COMP_CWORD == 1 ]]; then compopt +o bashdefault +o default; fi

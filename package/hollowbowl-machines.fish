@@ -15,6 +15,6 @@ complete -c hollowbowl-machines -n __hollowbowl_machines_script -a by_parallel -
 complete -c hollowbowl-machines -n __hollowbowl_machines_script -a by_slurm -d "Answer the parts by Slurm"
 complete -c hollowbowl-machines -n __hollowbowl_machines_script -a by_dask.py -d "Answer the parts by Dask"
 complete -c hollowbowl-machines -n __hollowbowl_machines_script -a renew -d "Answer a list anew"
-for option in answer walks within labels totals workers at-once landmarks shift chunk
+for option in answer walks within labels totals workers at-once landmarks hierarchy shift chunk
     complete -c hollowbowl-machines -n __hollowbowl_machines_options -l $option
 end

@@ -11,7 +11,7 @@ scripts=(
     'by_dask.py:answer the parts by Dask'
     'renew:answer a list anew'
 )
-options=(--answer --walks --within --labels --totals --workers --at-once --landmarks --shift --chunk)
+options=(--answer --walks --within --labels --totals --workers --at-once --landmarks --hierarchy --shift --chunk)
 if (( CURRENT == 2 )); then
     _describe script scripts
 elif [[ $words[2] == (parts|renew) && $words[CURRENT] == -* ]]; then

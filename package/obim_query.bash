@@ -11,10 +11,11 @@ _obim_query() {
         --answer | -a) choices="distances levels components" ;;
         --labels) choices="text raw" ;;
         --workers | -w | --at-once | --shift | -s) choices=auto ;;
+        --hierarchy) choices="auto no now" ;;
         --landmarks | --chunk | -c | --within) compopt +o bashdefault +o default; return ;;
         *[\<\>]) return ;;
-        *) choices="-a --answer -W --walks --within --labels --totals -w --workers --at-once --landmarks -s --shift -c --chunk
-            --session --progress --stats --explain -h --help -V --version" ;;
+        *) choices="-a --answer -W --walks --within --labels --totals -w --workers --at-once --landmarks --hierarchy -s --shift
+            -c --chunk --session --progress --stats --explain -h --help -V --version" ;;
     esac
     mapfile -t COMPREPLY < <(compgen -W "$choices" -- "$word")
 }

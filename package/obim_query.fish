@@ -8,6 +8,7 @@ complete -c obim_query -l totals -d "Print one line a source: how many, sum, gre
 complete -c obim_query -s w -l workers -x -a auto -d "How many workers, 1 to 64, or auto"
 complete -c obim_query -l at-once -x -a auto -d "Sources solved at the same time, 1 to 64, or auto"
 complete -c obim_query -l landmarks -x -d "Landmarks for far pairs, at most, 0 to 64"
+complete -c obim_query -l hierarchy -x -a "auto no now" -d "Shortcuts for far pairs"
 complete -c obim_query -s s -l shift -x -a auto -d "Bucket width 2^BITS, 0 to 63, or auto"
 complete -c obim_query -s c -l chunk -x -d "Vertices in a chunk, the unit of shared work, 1 to 256"
 complete -c obim_query -l session -d "Answer requests after the graph, each at once"

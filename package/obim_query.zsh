@@ -9,6 +9,7 @@ _arguments -s -S \
     '(-w --workers)'{-w+,--workers=}'[how many workers, 1 to 64]:count:(auto)' \
     '--at-once=[sources solved at the same time, 1 to 64]:count:(auto)' \
     '--landmarks=[landmarks for far pairs, at most, 0 to 64]:max:' \
+    '--hierarchy=[shortcuts for far pairs]:when:(auto no now)' \
     '(-s --shift)'{-s+,--shift=}'[bucket width 2^BITS, 0 to 63]:bits:(auto)' \
     '(-c --chunk)'{-c+,--chunk=}'[vertices in a chunk, the unit of shared work, 1 to 256]:size:' \
     '--session[answer requests after the graph, each at once]' \

@@ -1,11 +1,12 @@
 #!/usr/bin/env python3
 """Near vertices in a session, beside whole rows: tests/near.py PROGRAM COUNT.
 
-Sessions with walks on graphs of several shapes: a grid, one with free arcs, random arcs, a few hubs, and a long path. In
-each one COUNT questions in random order, of pairs with and without walks, of several pairs of one source, and within
-bounds, near ones and far ones, with arcs added between; two sessions choose landmarks after a few far pairs. What is
-expected comes from whole rows of the sources, which workers give: a request for all lines of a source is never searched.
-The same by a job with many sources of pairs. It prints what is wrong first, and the status is 1 then.
+Sessions with walks on graphs of several shapes: a grid, one with free arcs, random arcs, a few hubs, and a long path.
+In each one COUNT questions in random order, of pairs with and without walks, of several pairs of one source, and
+within bounds, near ones and far ones, with arcs added between; two sessions choose landmarks after a few far pairs,
+and one makes a hierarchy at first and after each change. What is expected comes from whole rows of the sources, which
+workers give: a request for all lines of a source is never searched. The same by a job with many sources of pairs. It
+prints what is wrong first, and the status is 1 then.
 """
 
 import random
@@ -125,26 +126,27 @@ def check(program, name, n, arcs, count, seed):
     walked = Session(program, graph_text(n, arcs), "--walks", "--workers", draw.choice("124"))
     plain = Session(program, graph_text(n, arcs), "--workers", draw.choice("12"), "--landmarks", "0")
     guided = Session(program, graph_text(n, arcs), "--workers", draw.choice("124"), "--landmarks", draw.choice("123"))
+    above = Session(program, graph_text(n, arcs), "--workers", draw.choice("124"), "--hierarchy", "now")
     few = Session(program, graph_text(n, arcs), "--walks", "--workers", draw.choice("12"), "--landmarks", draw.choice("123"))
     for part in range(5):
         if part:
             added = [(draw.randint(1, n), draw.randint(1, n), draw.randint(0, 9)) for _ in range(draw.randint(1, 5))]
             arcs = arcs + added
-            for session in (walked, few, plain, guided):
+            for session in (walked, few, plain, guided, above):
                 session.ask(f"p aux sp add {len(added)}\n" + "".join(f"a {a} {b} {w}\n" for a, b, w in added))
         rows = rows_of(walked, draw.sample(range(1, n + 1), min(SOURCES, n)))
         pairs = []
         for _ in range(count // 5):
             request, lines = question(draw, n, rows)
             costs = without_walks(lines)
-            for session, wanted in ((walked, lines), (few, lines), (plain, costs), (guided, costs)):
+            for session, wanted in ((walked, lines), (few, lines), (plain, costs), (guided, costs), (above, costs)):
                 found = session.ask(request)
                 if found != wanted:
                     wrong(f"{name}, seed {seed}: {request!r} gives {found[:4]}, and not {wanted[:4]}")
             if request.startswith("p aux sp p2p"):
                 pairs.append((request.split("\n", 1)[1], lines))
         check_job(program, name, graph_text(n, arcs), pairs, draw)
-    for session in (walked, few, plain, guided):
+    for session in (walked, few, plain, guided, above):
         session.close()
 
 
@@ -154,7 +156,8 @@ def check_job(program, name, graph, pairs, draw):
     asked = "".join(text for text, _ in pairs)
     job = f"{graph}p aux sp p2p {asked.count('q')}\n{asked}"
     few = ["--landmarks", draw.choice("12")]
-    for options in (["--landmarks", "0"], few, ["--walks"], ["--walks", *few]):
+    above, plain = ["--hierarchy", "now"], ["--hierarchy", "no"]
+    for options in (["--landmarks", "0"], [*plain, *few], above, ["--walks"], ["--walks", *few], ["--walks", *above]):
         wanted = "".join(line for _, lines in pairs for line in (lines if "--walks" in options else without_walks(lines)))
         command = [program, "--workers", str(draw.choice([1, 2, 4])), *options]
         found = subprocess.run(command, input=job.encode(), stdout=subprocess.PIPE, check=True).stdout.decode()

@@ -84,6 +84,14 @@ class Columns(Case):
             with Graph([0], [1], [1], landmarks=landmarks) as graph:
                 self.assertEqual(graph.distance(0, 1), 1)
 
+    def test_when_a_hierarchy(self):
+        for hierarchy in ("yes", True, 1, ["no"]):
+            with self.assertRaisesRegex(ValueError, "^hierarchy is "):
+                Graph([0], [1], [1], hierarchy=hierarchy)
+        for hierarchy in ("auto", "no", "now", None):
+            with Graph([0, 1], [1, 2], [1, 5], hierarchy=hierarchy) as graph:
+                self.assertEqual(graph.distance(0, 2), 6)
+
     def test_what_is_no_edge(self):
         for edge in (("a", "b"), ("a", "b", 1, 2), 5, (["a"], "b", 1)):
             with self.assertRaisesRegex((TypeError, ValueError), r"^edges\[1\] is .*, which is no \(tail, head, weight"):

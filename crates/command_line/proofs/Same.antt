@@ -5,6 +5,7 @@ use Rattle.obim_engine.specs.Settings.{AreSettings, shift_of}
 use Rattle.obim_engine.specs.declared.settings.Buckets.{Buckets}
 use Rattle.obim_engine.specs.declared.settings.Settings.{Settings}
 use Rattle.least_costs.specs.declared.plan.AtOnce.{AtOnce}
+use Rattle.least_costs.specs.declared.plan.HierarchyUse.{HierarchyUse}
 use Rattle.job_answer.specs.Choices.{IsAsked}
 use Rattle.job_answer.specs.declared.question.asked.Answer.{Answer}
 use Rattle.job_answer.specs.declared.question.asked.Asked.{Asked}
@@ -34,14 +35,15 @@ same_settings one other workers buckets chunk =
 
 -- what is asked, of these fields
 abbrev asked_of : (answer : Answer) (lines_are : Lines) (settings : Settings) (limit : ℕ) (at_once : AtOnce)
-    (landmarks : ℕ) (saves : Bool) → IsAsked answer lines_are limit → Asked
-asked_of answer lines_are settings limit at_once landmarks saves is = record {
+    (landmarks : ℕ) (hierarchy : HierarchyUse) (saves : Bool) → IsAsked answer lines_are limit → Asked
+asked_of answer lines_are settings limit at_once landmarks hierarchy saves is = record {
   answer = answer;
   lines = lines_are;
   settings = settings;
   limit = limit;
   at_once = at_once;
   landmarks = landmarks;
+  hierarchy = hierarchy;
   saves = saves;
   within = is;
 }
@@ -57,26 +59,28 @@ one_asked answer Totals limit is too =
     let only : IsProp (IsAsked answer Totals limit) = hlevel props in only is too
 
 -- one is what has these fields, however it is within its limits
-abbrev HasFields : Asked → Answer → Lines → Settings → ℕ → AtOnce → ℕ → Bool → Type 0
-HasFields one answer lines_are settings limit at_once landmarks saves =
-    (is : IsAsked answer lines_are limit) → one ≡ asked_of answer lines_are settings limit at_once landmarks saves is
+abbrev HasFields : Asked → Answer → Lines → Settings → ℕ → AtOnce → ℕ → HierarchyUse → Bool → Type 0
+HasFields one answer lines_are settings limit at_once landmarks hierarchy saves =
+    (is : IsAsked answer lines_are limit)
+    → one ≡ asked_of answer lines_are settings limit at_once landmarks hierarchy saves is
 
 pub same_asked : (one other : Asked) → one.answer ≡ other.answer → one.lines ≡ other.lines
     → one.settings ≡ other.settings → one.limit ≡ other.limit → one.at_once ≡ other.at_once
-    → one.landmarks ≡ other.landmarks → one.saves ≡ other.saves → one ≡ other
-same_asked one other answer lines_are settings limit at_once landmarks saves =
-    subst (λ (x : Answer). HasFields one x other.lines other.settings other.limit other.at_once other.landmarks other.saves)
+    → one.landmarks ≡ other.landmarks → one.hierarchy ≡ other.hierarchy → one.saves ≡ other.saves → one ≡ other
+same_asked one other answer lines_are settings limit at_once landmarks hierarchy saves =
+    subst (λ (x : Answer). HasFields one x other.lines other.settings other.limit other.at_once other.landmarks other.hierarchy other.saves)
     answer
-    (subst (λ (x : Lines). HasFields one one.answer x other.settings other.limit other.at_once other.landmarks other.saves)
+    (subst (λ (x : Lines). HasFields one one.answer x other.settings other.limit other.at_once other.landmarks other.hierarchy other.saves)
     lines_are
-    (subst (λ (x : Settings). HasFields one one.answer one.lines x other.limit other.at_once other.landmarks other.saves)
+    (subst (λ (x : Settings). HasFields one one.answer one.lines x other.limit other.at_once other.landmarks other.hierarchy other.saves)
     settings
-    (subst (λ (x : ℕ). HasFields one one.answer one.lines one.settings x other.at_once other.landmarks other.saves) limit
-    (subst (λ (x : AtOnce). HasFields one one.answer one.lines one.settings one.limit x other.landmarks other.saves) at_once
-    (subst (λ (x : ℕ). HasFields one one.answer one.lines one.settings one.limit one.at_once x other.saves) landmarks
-    (subst (λ (x : Bool). HasFields one one.answer one.lines one.settings one.limit one.at_once one.landmarks x) saves
-    (λ is. ap (asked_of one.answer one.lines one.settings one.limit one.at_once one.landmarks one.saves)
-    (one_asked _ _ _ one.within is)))))))) other.within
+    (subst (λ (x : ℕ). HasFields one one.answer one.lines one.settings x other.at_once other.landmarks other.hierarchy other.saves) limit
+    (subst (λ (x : AtOnce). HasFields one one.answer one.lines one.settings one.limit x other.landmarks other.hierarchy other.saves) at_once
+    (subst (λ (x : ℕ). HasFields one one.answer one.lines one.settings one.limit one.at_once x other.hierarchy other.saves) landmarks
+    (subst (λ (x : HierarchyUse). HasFields one one.answer one.lines one.settings one.limit one.at_once one.landmarks x other.saves) hierarchy
+    (subst (λ (x : Bool). HasFields one one.answer one.lines one.settings one.limit one.at_once one.landmarks one.hierarchy x) saves
+    (λ is. ap (asked_of one.answer one.lines one.settings one.limit one.at_once one.landmarks one.hierarchy one.saves)
+    (one_asked _ _ _ one.within is))))))))) other.within
 
 -- options of these fields
 abbrev options_of : (asked : Asked) (session stats progress explain typed : Bool) → Options

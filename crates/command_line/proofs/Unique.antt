@@ -1,6 +1,6 @@
 -- What values ask for is one thing.
 use Rattle.std.proofs.Common.{◌≡◌, ◌∙◌, ℕ, ◌<◌, ◌==◌, Bool, true, false, List, Option, None, Some, if◌then◌else◌}
-use Rattle.std.proofs.Common.{codes, refl, sym, ap, ap₂, subst, arith, slice_index, unwrap_or}
+use Rattle.std.proofs.Common.{codes, refl, sym, ap, ap₂, subst, arith, length, slice_index, unwrap_or}
 use Rattle.std.specs.Str.Parse.{IsNumeral, without_leading_plus}
 use Rattle.clap.specs.Words.{Text}
 use Rattle.obim_engine.specs.declared.settings.Settings.{Settings}
@@ -12,10 +12,12 @@ use Rattle.job_answer.specs.declared.question.asked.Lines.TheVariants.{Each, Wit
 use Rattle.least_costs.specs.declared.network.landmarks.TheConstants.{MAX_LANDMARKS}
 use Rattle.least_costs.specs.declared.plan.AtOnce.{AtOnce}
 use Rattle.least_costs.specs.declared.plan.AtOnce.TheVariants as at_once
+use Rattle.least_costs.specs.declared.plan.HierarchyUse.{HierarchyUse}
+use Rattle.least_costs.specs.declared.plan.HierarchyUse.TheVariants as hierarchy_use
 use Rattle.least_costs.specs.declared.plan.TheConstants.{USUAL_LANDMARKS}
 use Rattle.command_line.specs.CommandLine.{AreHyphens, AsksAtOnce, AsksCost, AsksLandmarks, AsksLines, AsksNumber}
 use Rattle.command_line.specs.CommandLine.{AsksSettings, IsAuto, IsFlag, IsNumeralOf, NamesKind, NamesLabels, buckets_for, name_of}
-use Rattle.command_line.specs.CommandLine.{usual_chunk}
+use Rattle.command_line.specs.CommandLine.{NamesUse, usual_chunk, word_of}
 use Rattle.command_line.proofs.Same.{same_settings}
 
 -- two bits that say the same are one
@@ -105,6 +107,21 @@ pub one_landmarks : (text : Option Text) (one other : ℕ) → AsksLandmarks tex
 one_landmarks text one other is too =
     is.most_is ∙ ap (λ number. unwrap_or number USUAL_LANDMARKS) (one_number false 0 MAX_LANDMARKS text _ _ is.asks too.asks)
     ∙ sym too.most_is
+
+-- the use whose word has so many letters
+use_by : ℕ → HierarchyUse
+use_by count = if count == 4 then hierarchy_use.Auto else (if count == 2 then hierarchy_use.Never else hierarchy_use.Now)
+
+use_again : (asked : HierarchyUse) → use_by (length (word_of asked)) ≡ asked
+unfolding use_by
+use_again hierarchy_use.Auto = refl
+use_again hierarchy_use.Never = refl
+use_again hierarchy_use.Now = refl
+
+pub one_use : (text : Option Text) (one other : HierarchyUse) → NamesUse text one → NamesUse text other → one ≡ other
+one_use None one other is too = is ∙ sym too
+one_use (Some text) one other is too =
+    sym (use_again one) ∙ ap (λ (name : Text). use_by (length name)) (sym is ∙ too) ∙ use_again other
 
 -- the lines, by what is said of them
 pub lines_by : Bool → Option ℕ → Bool → Bool → Bool → Lines

@@ -25,6 +25,8 @@ use Rattle.job_answer.specs.declared.question.asked.Lines.TheVariants.{Each}
 use Rattle.least_costs.specs.declared.network.landmarks.TheConstants.{MAX_LANDMARKS}
 use Rattle.least_costs.specs.declared.plan.AtOnce.{AtOnce}
 use Rattle.least_costs.specs.declared.plan.AtOnce.TheVariants as at_once
+use Rattle.least_costs.specs.declared.plan.HierarchyUse.{HierarchyUse}
+use Rattle.least_costs.specs.declared.plan.HierarchyUse.TheVariants as hierarchy_use
 use Rattle.least_costs.specs.declared.plan.TheConstants.{CHUNK_OF_TWO, SHARED_CHUNK, USUAL_LANDMARKS}
 use Rattle.command_line.specs.declared.options.Options.{Options}
 use Rattle.command_line.specs.declared.refusals.Refusal.{Refusal}
@@ -61,6 +63,9 @@ at_once_rule = record (valued (codes "at-once")) { defaults = codes "auto" ∷ [
 abbrev pub landmarks_rule : Rule
 landmarks_rule = valued (codes "landmarks")
 
+abbrev pub hierarchy_rule : Rule
+hierarchy_rule = record (valued (codes "hierarchy")) { defaults = codes "auto" ∷ [] }
+
 abbrev pub shift_rule : Rule
 shift_rule = record (valued (codes "shift")) { short = Some 115; defaults = codes "auto" ∷ [] }
 
@@ -76,7 +81,7 @@ operand_rule = record (new_rule (codes "operand")) {
 
 abbrev pub program_rules : List Rule
 program_rules = answer_rule ∷ walks_rule ∷ within_rule ∷ labels_rule ∷ flag (codes "totals") ∷ workers_rule
-    ∷ at_once_rule ∷ landmarks_rule ∷ shift_rule ∷ chunk_rule ∷ flag (codes "session") ∷ flag (codes "progress") ∷ flag (codes "stats") ∷ flag (codes "explain") ∷ operand_rule
+    ∷ at_once_rule ∷ landmarks_rule ∷ hierarchy_rule ∷ shift_rule ∷ chunk_rule ∷ flag (codes "session") ∷ flag (codes "progress") ∷ flag (codes "stats") ∷ flag (codes "explain") ∷ operand_rule
     ∷ []
 
 -- a command with a version, and of an option that is given twice the last one counts
@@ -155,6 +160,16 @@ pub record AsksLandmarks (text : Option Text) (most : ℕ) : Type 0 where
   pub asks : AsksNumber false 0 MAX_LANDMARKS text number
   pub most_is : most ≡ unwrap_or number USUAL_LANDMARKS
 
+-- the word for when a network is given a hierarchy; without a word it is `auto`
+abbrev pub word_of : HierarchyUse → Text
+word_of hierarchy_use.Auto = codes "auto"
+word_of hierarchy_use.Never = codes "no"
+word_of hierarchy_use.Now = codes "now"
+
+abbrev pub NamesUse : Option Text → HierarchyUse → Type 0
+NamesUse None asked = asked ≡ hierarchy_use.Auto
+NamesUse (Some text) asked = text ≡ word_of asked
+
 -- vertices of a chunk where none are asked for: one worker shares nothing, so its chunks are as large as they can be
 abbrev pub usual_chunk : ℕ → ℕ
 usual_chunk workers =
@@ -207,6 +222,7 @@ pub record AsksFor (rows : List Row) (options : Options) : Type 0 where
   pub saves : IsAuto (first_of (codes "workers") rows) options.asked.saves
   pub at_once : AsksAtOnce (first_of (codes "at-once") rows) options.asked.at_once
   pub landmarks : AsksLandmarks (first_of (codes "landmarks") rows) options.asked.landmarks
+  pub hierarchy : NamesUse (first_of (codes "hierarchy") rows) options.asked.hierarchy
   pub limit : options.asked.limit ≡ MAX_BYTES
   pub session : IsFlag (first_of (codes "session") rows) options.session
   pub stats : IsFlag (first_of (codes "stats") rows) options.stats

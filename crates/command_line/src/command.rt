@@ -2,11 +2,11 @@
 
 ghost use Rattle.std.specs.Prelude.{◌≡◌, codes, false, IfOk};
 ghost use Rattle.clap.specs.Words.{app_of, rule_of, with_rule};
-ghost use Rattle.command_line.specs.CommandLine.{answer_rule, at_once_rule, chunk_rule, operand_rule, shift_rule};
+ghost use Rattle.command_line.specs.CommandLine.{answer_rule, at_once_rule, chunk_rule, hierarchy_rule, operand_rule, shift_rule};
 ghost use Rattle.command_line.specs.CommandLine.{bare_program, flag, labels_rule, landmarks_rule, program, valued};
 ghost use Rattle.command_line.specs.CommandLine.{walks_rule, within_rule, workers_rule};
 
-use crate::values::{AT_ONCE, CHUNK, KINDS, LABELS, LANDMARKS, SHIFT, WORKERS};
+use crate::values::{AT_ONCE, CHUNK, HIERARCHY_USES, KINDS, LABELS, LANDMARKS, SHIFT, WORKERS};
 use clap::{Arg, ArgAction, Command};
 use std::alloc::{AllocError, Global};
 
@@ -18,16 +18,20 @@ const USAGE: &str = "obim_query [OPTIONS] < JOB";
 const ABOUT: &str = "Answers a job: a directed graph with whole-number weights, and queries.";
 
 const AFTER: &str = "\
-Workers, sources at once, landmarks, shift and chunk change how long an answer
-takes, and no byte of it. The defaults serve every kind of graph, from paths to
-maps of 24 million vertices. With --workers auto there are two, and one works
-alone in a small graph, where the other would gain less than it takes; so it
-does in a session by any --workers. With --at-once auto sources are solved side
-by side, up to one for each worker, and one by one if the graph is large and
-vertices have many arcs; each source at once takes memory of its own. Landmarks
-are vertices from which a graph is solved once many pairs are far from each
-other: by their costs such pairs take a fraction of the time. Each takes 2 bytes
-a vertex; without --landmarks there are 16 at most, and with 0 none. With
+Workers, sources at once, landmarks, hierarchy, shift and chunk change how long
+an answer takes, and no byte of it. The defaults serve every kind of graph, from
+paths to maps of 24 million vertices. With --workers auto there are two, and one
+works alone in a small graph, where the other would gain less than it takes; so
+it does in a session by any --workers. With --at-once auto sources are solved
+side by side, up to one for each worker, and one by one if the graph is large
+and vertices have many arcs; each source at once takes memory of its own.
+Landmarks are vertices from which a graph is solved once many pairs are far from
+each other: by their costs such pairs take a fraction of the time. Each takes 2
+bytes a vertex; without --landmarks there are 16 at most, and with 0 none. A
+hierarchy has shortcuts over less important vertices, by which a far pair takes
+a fraction of a millisecond on a map. With --hierarchy auto one is made once far
+pairs took as long, with now before the first pair, with no never; it is
+checked, and given up on graphs that are unlike maps. Walks don't use it. With
 --shift auto the buckets of vertices get wider as costs rise, up to a width that
 fits the graph; with --shift BITS each spans 2^BITS costs. Without --chunk a
 chunk has 256 vertices with one worker, 128 with two, and 64 with more. If an
@@ -163,8 +167,8 @@ fn with_settings<'a>(
     command: Command<'a>,
     limits: &'a Limits,
 ) -> Result<Command<'a>, AllocError>
-    ensures { IfOk result (λ with. app_of with ≡ with_rule (with_rule (with_rule (with_rule (with_rule
-        (app_of command.entry) workers_rule) at_once_rule) landmarks_rule) shift_rule) chunk_rule) }
+    ensures { IfOk result (λ with. app_of with ≡ with_rule (with_rule (with_rule (with_rule (with_rule (with_rule
+        (app_of command.entry) workers_rule) at_once_rule) landmarks_rule) hierarchy_rule) shift_rule) chunk_rule) }
 {
     let command = with_plan(alloc, command, limits)?
         .arg(shift_option(alloc, &limits.shift))?
@@ -177,13 +181,14 @@ fn with_plan<'a>(
     command: Command<'a>,
     limits: &'a Limits,
 ) -> Result<Command<'a>, AllocError>
-    ensures { IfOk result (λ with. app_of with ≡ with_rule (with_rule (with_rule
-        (app_of command.entry) workers_rule) at_once_rule) landmarks_rule) }
+    ensures { IfOk result (λ with. app_of with ≡ with_rule (with_rule (with_rule (with_rule
+        (app_of command.entry) workers_rule) at_once_rule) landmarks_rule) hierarchy_rule) }
 {
     let command = command
         .arg(workers_option(alloc, &limits.workers))?
         .arg(at_once_option(alloc, &limits.at_once))?
-        .arg(landmarks_option(alloc, &limits.landmarks))?;
+        .arg(landmarks_option(alloc, &limits.landmarks))?
+        .arg(hierarchy_option(alloc))?;
     Ok(command)
 }
 
@@ -264,6 +269,13 @@ fn landmarks_option<'a>(alloc: Global, help: &'a str) -> Arg<'a>
     ensures local { result.global ≡ false }
 {
     option(alloc, "landmarks", "MAX", help)
+}
+
+fn hierarchy_option<'a>(alloc: Global) -> Arg<'a>
+    ensures rule { rule_of result ≡ hierarchy_rule }
+    ensures local { result.global ≡ false }
+{
+    option(alloc, "hierarchy", "WHEN", HIERARCHY_USES).default_value("auto")
 }
 
 fn shift_option<'a>(alloc: Global, help: &'a str) -> Arg<'a>

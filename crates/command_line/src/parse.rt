@@ -11,7 +11,8 @@ use crate::lines::lines_in;
 use crate::options::Options;
 use crate::refusals::{Refusal, refused_by};
 use crate::values::{
-    Misuse, answer_in, at_once_in, has_flag, has_hyphen, landmarks_in, saves_workers, settings_in,
+    Misuse, answer_in, at_once_in, has_flag, has_hyphen, hierarchy_in, landmarks_in, saves_workers,
+    settings_in,
 };
 use clap::ArgMatches;
 use job_answer::{Asked, MAX_BYTES};
@@ -43,6 +44,7 @@ fn options_in(alloc: Global, matches: &ArgMatches) -> Result<Options, Misuse>
     let settings = settings_in(alloc, matches)?;
     let at_once = at_once_in(alloc, matches)?;
     let landmarks = landmarks_in(alloc, matches)?;
+    let hierarchy = hierarchy_in(alloc, matches)?;
     let saves = saves_workers(matches);
     let walks = has_flag(matches, "walks");
     let lines = lines_in(alloc, matches, answer, walks)?;
@@ -61,6 +63,7 @@ fn options_in(alloc: Global, matches: &ArgMatches) -> Result<Options, Misuse>
         asked: asked
             .with_at_once(at_once)
             .with_landmarks(landmarks)
+            .with_hierarchy(hierarchy)
             .with_saving(saves),
         session,
         stats,

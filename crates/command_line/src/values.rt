@@ -3,12 +3,12 @@
 ghost use Rattle.std.specs.Prelude.{◌≡◌, ℕ, [], codes, map, option_map, unwrap_or, MatchOption};
 ghost use Rattle.clap.specs.Words.{first_value, found_of, matched_of, raw_values};
 ghost use Rattle.command_line.specs.CommandLine.{AreHyphens, AsksAtOnce, AsksCost, AsksNumber, AsksSettings, IsAuto};
-ghost use Rattle.command_line.specs.CommandLine.{AsksLandmarks, IsFlag, IsNumberIn, NamesKind, NamesLabels, usual_chunk};
+ghost use Rattle.command_line.specs.CommandLine.{AsksLandmarks, IsFlag, IsNumberIn, NamesKind, NamesLabels, NamesUse, usual_chunk};
 ghost use Rattle.command_line.specs.Misuses.{Finds};
 ghost use Rattle.command_line.specs.declared.values.Misuse.TheVariants as misuse;
 
 use clap::ArgMatches;
-use job_answer::{Answer, AtOnce, MAX_AT_ONCE, MAX_LANDMARKS, USUAL_LANDMARKS};
+use job_answer::{Answer, AtOnce, HierarchyUse, MAX_AT_ONCE, MAX_LANDMARKS, USUAL_LANDMARKS};
 use least_costs::{CHUNK_OF_TWO, SHARED_CHUNK};
 use obim_engine::{MAX_CHUNK, MAX_SHIFT, MAX_WORKERS, Settings};
 use route_walks::INF;
@@ -20,6 +20,9 @@ pub(crate) const KINDS: &str = "distances, levels or components";
 
 /// The values of `--labels`.
 pub(crate) const LABELS: &str = "text, or raw: 8 bytes each";
+
+/// The values of `--hierarchy`.
+pub(crate) const HIERARCHY_USES: &str = "Shortcuts for far pairs: auto, no or now";
 
 pub(crate) const WORKERS: Numbers = Numbers {
     option: "workers",
@@ -203,6 +206,20 @@ pub(crate) fn landmarks_in(alloc: Global, matches: &ArgMatches) -> Result<u32, M
             .asked_in(alloc, matches)?
             .unwrap_or(USUAL_LANDMARKS),
     )
+}
+
+/// The pairs that are given a hierarchy.
+pub(crate) fn hierarchy_in(alloc: Global, matches: &ArgMatches) -> Result<HierarchyUse, Misuse>
+    ensures { Finds (NamesUse (first_value (found_of matches.now) (codes "hierarchy"))) result }
+{
+    match matches.get_str("hierarchy") {
+        None | Some("auto") => Ok(HierarchyUse::Auto),
+        Some("no") => Ok(HierarchyUse::Never),
+        Some("now") => Ok(HierarchyUse::Now),
+        Some(text) => Err(Misuse::Line(format!(in alloc;
+            "invalid value '{text}' for '--hierarchy': auto, no or now"
+        )?)),
+    }
 }
 
 fn chunk_of(asked: Option<u32>, workers: u32) -> usize

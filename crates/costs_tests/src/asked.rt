@@ -3,6 +3,7 @@
 
 mod choices;
 mod draws;
+mod hierarchies;
 mod kept;
 mod landmarks;
 mod near_walks;

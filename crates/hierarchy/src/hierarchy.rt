@@ -48,8 +48,7 @@ impl Model for Hierarchy {
 /// Says how many arcs it has.
 impl fmt::Debug for Hierarchy {
     fn fmt<W: fmt::Write>(&self, f: &mut fmt::Formatter<W>) -> fmt::Result {
-        let arcs = self.up.arc_count().saturating_add(self.down.arc_count());
-        write!(f, "Hierarchy({arcs})")
+        write!(f, "Hierarchy({})", self.arc_count())
     }
 }
 
@@ -91,6 +90,11 @@ impl Hierarchy {
         laws::hierarchies_are_exact();
         let (from, to) = (self.places[source as usize], self.places[target as usize]);
         forward.cost_above(backward, &self.up, &self.down, from, to, INF)
+    }
+
+    /// The number of its arcs, up and down.
+    pub fn arc_count(&self) -> usize {
+        self.up.arc_count().saturating_add(self.down.arc_count())
     }
 
     /// The arcs from higher places, turned round.

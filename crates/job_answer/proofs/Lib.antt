@@ -1,5 +1,6 @@
 pub mod Known
 pub mod Facts
+pub mod Shared
 pub mod Sinks
 pub mod Replies
 pub mod Costs

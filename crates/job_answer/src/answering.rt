@@ -27,7 +27,7 @@ use crate::solving::pair_queries::PairQueries;
 use crate::watch::{NoWatch, Phase, Watch};
 use dimacs_text::{Ask, Job};
 use job_reader::{ReadWatch, read_job_from};
-use least_costs::{Start, Workers, Workspace, count_sources};
+use least_costs::{HierarchyUse, Network, Start, Workers, Workspace, count_sources};
 use obim_engine::Gate;
 use std::alloc::Global;
 use std::io::{Read, Write};
@@ -139,9 +139,9 @@ fn answer_job<H: Threads + Wait + Clock + Sync, W: Write, G: Gate + Sync>(
     let rows = graphs.network.rows();
     watch.see_rows(rows.n(), rows.arc_count());
     watch.end(rt, Phase::Rows);
-    let mut kept = Workspace::new().searching(has_many_sources(&ask));
+    let mut kept = Workspace::new().searching(are_searched(asked, &ask));
     prepare(context, &mut graphs, &ask, &mut kept);
-    watch.see_landmarks(graphs.network.landmark_count());
+    show_means(&graphs.network, watch);
     watch.end(rt, Phase::Preparing);
     let question = Question {
         graphs: &graphs,
@@ -154,6 +154,12 @@ fn answer_job<H: Threads + Wait + Clock + Sync, W: Write, G: Gate + Sync>(
     answered
 }
 
+/// Shows a watch by what pairs are searched.
+fn show_means(network: &Network, watch: &mut impl Watch) {
+    watch.see_landmarks(network.landmark_count());
+    watch.see_hierarchy(network.hierarchy_arc_count());
+}
+
 /// Shows a watch what searches visited.
 fn show_searches(kept: &Option<Workspace>, watch: &mut impl Watch) {
     if let Some(kept) = kept {
@@ -161,8 +167,8 @@ fn show_searches(kept: &Option<Workspace>, watch: &mut impl Watch) {
     }
 }
 
-/// Makes the network of a job ready for pairs, if these are searched: its rows are reversed, and landmarks are chosen if
-/// that saves time.
+/// Makes the network of a job ready for pairs, if these are searched: its rows are reversed, and landmarks are chosen or a
+/// hierarchy is made if that saves time.
 fn prepare<H: Threads + Wait + Clock + Sync, G: Gate + Sync>(
     context: &Context<'_, H, G>,
     graphs: &mut Graphs,
@@ -192,10 +198,13 @@ fn reverse_if(turns: bool, alloc: Global, graphs: &mut Graphs)
     }
 }
 
-/// Tells if the pairs have so many sources that searches by the thread that asks are worth their room.
-fn has_many_sources(ask: &Ask) -> bool {
+/// Tells if the pairs have so many sources that searches by the thread that asks are worth their room, or a hierarchy is
+/// asked for.
+fn are_searched(asked: &Asked, ask: &Ask) -> bool {
     match ask {
-        Ask::Pairs(pairs) => count_sources(pairs) >= MANY_SOURCES,
+        Ask::Pairs(pairs) => {
+            count_sources(pairs) >= MANY_SOURCES || asked.hierarchy == HierarchyUse::Now
+        }
         Ask::Absent | Ask::Sources(_) => false,
     }
 }

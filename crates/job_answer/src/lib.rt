@@ -26,7 +26,7 @@ mod watch;
 pub use answering::{answer, answer_bytes, answer_question, answer_watched, is_unasked};
 pub use fault::{Fault, status};
 pub use job_reader::ReadWatch;
-pub use least_costs::{AtOnce, MAX_LANDMARKS, USUAL_LANDMARKS};
+pub use least_costs::{AtOnce, HierarchyUse, MAX_LANDMARKS, USUAL_LANDMARKS};
 pub use output::sink::write_whole;
 pub use question::Question;
 pub use question::asked::{Answer, Asked, Lines, MAX_AT_ONCE, MAX_BYTES};

@@ -9,7 +9,7 @@ pub enum Phase {
     Reading,
     /// Making the rows.
     Rows,
-    /// Reversing them and choosing landmarks, for pairs.
+    /// Reversing them, choosing landmarks and making a hierarchy, for pairs.
     Preparing,
     Solving,
     Writing,
@@ -22,6 +22,9 @@ pub trait Watch {
 
     /// Sees how many landmarks pairs are searched by.
     fn see_landmarks(&mut self, _landmarks: usize) {}
+
+    /// Sees how many arcs the hierarchy has by which pairs are searched; 0 without one.
+    fn see_hierarchy(&mut self, _arcs: usize) {}
 
     /// Sees how many vertices the searches for pairs and walks visited, which no gate sees.
     fn see_search_visits(&mut self, _visits: u64) {}

@@ -13,6 +13,8 @@ pub struct Figures {
     pub solves: usize,
     /// The landmarks that pairs were searched by.
     pub landmarks: usize,
+    /// The arcs of the hierarchy that pairs were searched by; 0 without one.
+    pub hierarchy_arcs: usize,
     /// The vertices that searches visited.
     pub search_visits: u64,
     /// The most sources solved at the same time.
@@ -34,6 +36,7 @@ impl Figures {
             arcs: 0,
             solves: 0,
             landmarks: 0,
+            hierarchy_arcs: 0,
             search_visits: 0,
             at_once: 1,
             reading: Duration::ZERO,
@@ -56,6 +59,10 @@ impl Watch for Figures {
 
     fn see_landmarks(&mut self, landmarks: usize) {
         self.landmarks = landmarks;
+    }
+
+    fn see_hierarchy(&mut self, arcs: usize) {
+        self.hierarchy_arcs = arcs;
     }
 
     fn see_search_visits(&mut self, visits: u64) {

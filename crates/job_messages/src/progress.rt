@@ -143,6 +143,10 @@ impl<H: Eprint + Clock> Watch for ProgressReport<'_, H> {
         self.figures.see_landmarks(landmarks);
     }
 
+    fn see_hierarchy(&mut self, arcs: usize) {
+        self.figures.see_hierarchy(arcs);
+    }
+
     fn see_search_visits(&mut self, visits: u64) {
         self.figures.see_search_visits(visits);
     }

@@ -21,6 +21,7 @@ pub fn print_stats<H: Eprint>(rt: &H, asked: &Asked, figures: &Figures, counter:
     let _ = eprintln!(rt; "solves: {}", figures.solves);
     let _ = eprintln!(rt; "sources at once: {}", figures.at_once);
     let _ = eprintln!(rt; "landmarks: {}", figures.landmarks);
+    let _ = eprintln!(rt; "arcs of the hierarchy: {}", figures.hierarchy_arcs);
     let _ = eprintln!(rt; "reading: {} ms", figures.reading.as_millis());
     let _ = eprintln!(rt; "rows: {} ms", figures.rows.as_millis());
     let _ = eprintln!(rt; "preparing: {} ms", figures.preparing.as_millis());

@@ -9,4 +9,5 @@ pub mod Filling
 pub mod Reaching
 pub mod Bounds
 pub mod Cells
+pub mod Shared
 pub mod Facts

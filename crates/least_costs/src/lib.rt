@@ -21,14 +21,15 @@
 //! ```
 //!
 //! A network can be given landmarks: vertices from which it is solved once. By them the costs of far pairs are found with
-//! a fraction of the visits. `Workspace::prepare` gives it some once that saves time.
+//! a fraction of the visits. A hierarchy finds them by a few hundred, if the network has small cuts, as a map.
+//! `Workspace::prepare` gives it either once that saves time.
 //!
 //! `Each` is made of a `TaskQueue`: tasks of any kind that teams do at the same time, before their turn. `Workers` keep
 //! their pool, a `WarmPool`, from one task to the next. Asked for the costs that serve a goal, they go no further, and
 //! give `CostsBelow`: labels that are least up to a limit.
 //!
 //! Stands on `obim_engine`, whose workers give the costs, on its pools in `obim_pool`, and on `near_labels` for near
-//! vertices. Walks come from `walk_report`, rows from `csr_graph`, and pauses from `label_words`; `route_walks` says
+//! vertices. Far pairs are asked of a `hierarchy`. Walks come from `walk_report`, rows from `csr_graph`, and pauses from `label_words`; `route_walks` says
 //! what walks cost. A call starts threads, and returns only if its workers do, which no contract promises.
 #![tactic(auto)]
 
@@ -59,7 +60,7 @@ pub use network::growth::NetworkGrowth;
 pub use network::landmarks::MAX_LANDMARKS;
 pub use network::{MOST_ARCS, Network};
 pub use pairs::PairCosts;
-pub use plan::{AtOnce, CHUNK_OF_TWO, Plan, SHARED_CHUNK, USUAL_LANDMARKS};
+pub use plan::{AtOnce, CHUNK_OF_TWO, HierarchyUse, Plan, SHARED_CHUNK, USUAL_LANDMARKS};
 pub use preparing::count_sources;
 pub use progress::{Progress, Unwatched};
 pub use solver::Solver;

@@ -1,5 +1,6 @@
 //! Costs to vertices near the source, found before workers are asked.
 
+pub(crate) mod above;
 pub(crate) mod budget;
 pub(crate) mod room;
 pub(crate) mod visits;

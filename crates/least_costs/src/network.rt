@@ -4,6 +4,7 @@ pub(crate) mod between;
 pub(crate) mod growth;
 pub(crate) mod landmarks;
 pub(crate) mod reversed;
+pub(crate) mod shortcuts;
 
 ghost use Rattle.std.specs.Prelude.{◌≡◌, ◌+◌, ◌≤◌, ◌<◌, ◌^◌, ◌↔◌, ◌++◌, length, filter, All};
 ghost use Rattle.std.specs.Prelude.{IfErr, IfNone, IfOk, IfSome, IsTrue, List, ℕ};
@@ -22,7 +23,9 @@ use crate::fault::NetworkFault;
 use crate::network::between::list_between;
 use crate::network::landmarks::Landmarks;
 use crate::network::reversed::Reversed;
+use crate::network::shortcuts::Shortcuts;
 use csr_graph::Csr;
+use hierarchy::Hierarchy;
 use near_labels::BothWays;
 use route_walks::{ArcRec, MAX_ARCS, MAX_VERTICES, Memory, both_ways, unit_weights};
 use std::alloc::Global;
@@ -33,12 +36,14 @@ use std::thread::Threads;
 pub const MOST_ARCS: usize = 1 << 30;
 
 /// A directed graph along whose arcs costs are least. It keeps 8 bytes a vertex and 8 an arc, 16 if arcs are free both
-/// ways, and as much again once its rows are reversed. A landmark takes 2 bytes a vertex.
+/// ways, and as much again once its rows are reversed. A landmark takes 2 bytes a vertex, and a hierarchy 28 bytes a vertex
+/// and 8 for each of its arcs.
 #[derive(Debug, Drop)]
 pub struct Network {
     pub(crate) rows: Csr,
     reversed: Option<Reversed>,
     landmarks: Option<Landmarks>,
+    shortcuts: Option<Shortcuts>,
     cost: Cost,
     // Of the rows' arcs those that `with_arcs` added last.
     pub(crate) added: Vec<ArcRec>,
@@ -54,7 +59,7 @@ impl Model for Network {
 
     ghost invariant = { λ w. AreRowsOf
         (record { n = w.rows.n; cost = w.cost; arcs = w.rows.arcs; added = w.added.items })
-        w.reversed w.landmarks };
+        w.reversed w.landmarks w.shortcuts };
 }
 
 impl Network {
@@ -106,6 +111,7 @@ impl Network {
             rows,
             reversed: None,
             landmarks: None,
+            shortcuts: None,
             cost,
             added: Vec::new(alloc),
         })
@@ -124,6 +130,7 @@ impl Network {
             rows,
             reversed: None,
             landmarks: None,
+            shortcuts: None,
             cost: self.cost,
             added,
         })
@@ -154,6 +161,7 @@ impl Network {
             rows,
             reversed: None,
             landmarks: None,
+            shortcuts: None,
             cost: self.cost,
             added: Vec::new(alloc),
         })
@@ -215,6 +223,7 @@ impl Network {
             rows,
             reversed: None,
             landmarks: None,
+            shortcuts: None,
             cost,
             added: Vec::new(alloc),
         })
@@ -281,6 +290,42 @@ impl Network {
         ensures { IfSome result (λ landmarks. landmarks.now.graph ≡ graph_of self.now) }
     {
         self.landmarks.as_ref()
+    }
+
+    /// Keeps a hierarchy of this network, if one could be made.
+    pub(crate) fn keep_hierarchy(&mut self, hierarchy: Option<Hierarchy>)
+        requires { IfSome hierarchy (λ h. h.graph ≡ graph_of self.old) }
+        ensures { self.new ≡ self.old }
+    {
+        self.shortcuts = Some(Shortcuts { hierarchy });
+    }
+
+    /// Tells if a hierarchy was made, or given up.
+    pub fn was_contracted(&self) -> bool {
+        self.shortcuts.is_some()
+    }
+
+    /// Tells if it has a hierarchy.
+    pub fn has_hierarchy(&self) -> bool {
+        self.hierarchy().is_some()
+    }
+
+    /// The number of arcs of the hierarchy; 0 without one.
+    pub fn hierarchy_arc_count(&self) -> usize {
+        match self.hierarchy() {
+            Some(hierarchy) => hierarchy.arc_count(),
+            None => 0,
+        }
+    }
+
+    /// The hierarchy, if one was made.
+    pub(crate) fn hierarchy(&self) -> Option<&Hierarchy>
+        ensures { IfSome result (λ hierarchy. hierarchy.now.graph ≡ graph_of self.now) }
+    {
+        match &self.shortcuts {
+            Some(shortcuts) => shortcuts.hierarchy.as_ref(),
+            None => None,
+        }
     }
 
     /// The rows and those of the reversed arcs, if these were made.

@@ -11,6 +11,7 @@ ghost use Rattle.least_costs.specs.Pairs.{AreAsked, AreBySource, AreCostsAfter, 
 ghost use Rattle.least_costs.specs.Pairs.{AreFilledAfter, AreGrownCostsTo, ArePairCosts, ArePairsWithin, AreTargets};
 ghost use Rattle.least_costs.specs.Pairs.{GrowsInto, IsRun};
 ghost use Rattle.least_costs.specs.TaskQueue.{AreFinished};
+ghost use Rattle.least_costs.specs.declared.pairs.Pairs.{Pairs};
 
 use crate::costs::costs_at;
 use crate::near::Near;
@@ -47,6 +48,23 @@ pub struct PairCosts {
     pub costs: Vec<Option<u64>>,
     /// Those in the grown network, if there is one.
     pub after: Vec<Option<u64>>,
+}
+
+/// Pairs that threads share. A function that takes them by this bound is given that they may, and the search for that need
+/// not go through two networks there.
+trait SharedPairs: Sync {
+    ghost seen: { Self → Pairs };
+
+    fn pairs(&self) -> &Pairs<'_>
+        ensures { result.now ≡ seen self.now };
+}
+
+impl<'a> SharedPairs for Pairs<'a> {
+    ghost seen = { λ pairs. pairs };
+
+    fn pairs(&self) -> &Pairs<'_> {
+        self
+    }
 }
 
 impl<'a> Tasks<PairCosts> for Pairs<'a> {
@@ -220,27 +238,27 @@ fn costs_next<H: Threads + Wait + Clock + Sync, G: Gate + Sync>(
 }
 
 /// The costs of the source at a place, if made before their turn.
-fn take_ahead<H: Threads + Wait + Clock + Sync, G: Gate + Sync>(
+fn take_ahead<H: Threads + Wait + Clock + Sync, G: Gate + Sync, S: SharedPairs>(
     rt: &H,
     alloc: Global,
     queue: &mut TaskQueue<'_, PairCosts, G>,
-    asked: &Pairs<'_>,
+    shared: &S,
     first: usize,
 ) -> Option<PairCosts>
-    requires asked { AreAsked asked.now }
-    requires made { AreFinished (AreCostsFrom asked.now) queue.old.made.items }
-    ensures left { AreFinished (AreCostsFrom asked.now) queue.new.made.items }
-    ensures costs { IfSome result (AreCostsFrom asked.now first) }
+    requires asked { AreAsked (S.seen shared.now) }
+    requires made { AreFinished (AreCostsFrom (S.seen shared.now)) queue.old.made.items }
+    ensures left { AreFinished (AreCostsFrom (S.seen shared.now)) queue.new.made.items }
+    ensures costs { IfSome result (AreCostsFrom (S.seen shared.now) first) }
 {
     queue.take(
         rt,
         alloc,
-        asked,
+        shared.pairs(),
         &|place: usize, workers: &mut Workers<'_, TeamGate<'_, G>>| -> Option<PairCosts>
-            requires sync { IsSync H.row × IsSync G.row }
-            requires asked { AreAsked asked.now }
-            ensures { IfSome result (AreCostsFrom asked.entry.now place) }
-        { costs_by(rt, alloc, asked, place, workers) },
+            requires sync { IsSync H.row × IsSync G.row × IsSync S.row }
+            requires asked { AreAsked (S.seen shared.now) }
+            ensures { IfSome result (AreCostsFrom (S.seen shared.entry.now) place) }
+        { costs_by(rt, alloc, shared.pairs(), place, workers) },
         first,
     )
 }
@@ -294,7 +312,7 @@ fn costs_near(
     Some(PairCosts { costs, after })
 }
 
-/// The costs of these targets, if a search by landmarks or without finds them.
+/// The costs of these targets, if a search finds them: by a hierarchy, by landmarks, or by neither.
 fn search_targets(
     alloc: Global,
     asked: &Pairs<'_>,
@@ -308,6 +326,9 @@ fn search_targets(
     ensures { IfSome result (λ costs. AreCostsTo asked.now.network.now (At source) targets.now costs.items) }
 {
     let network = asked.network;
+    if let Some(hierarchy) = network.hierarchy() {
+        return near.costs_above(alloc, network, hierarchy, source, targets);
+    }
     match asked.landmarks {
         Some(landmarks) if landmarks.len() > 0 => {
             near.costs_by(alloc, network, landmarks, source, targets)

@@ -1,4 +1,4 @@
-//! Settings, and the numbers of sources at a time and of landmarks.
+//! Settings, the numbers of sources at a time and of landmarks, and when a hierarchy is made.
 
 ghost use Rattle.std.specs.Prelude.{◌≡◌, ◌≤◌, max, min};
 ghost use Rattle.least_costs.specs.Teams.{IsAtMost};
@@ -53,6 +53,17 @@ fn is_large(rows: &Csr) -> bool {
     rows.n() >= MANY_VERTICES && rows.arc_count() / MANY_ARCS_A_VERTEX >= rows.n() as usize
 }
 
+/// The pairs for which a network is given a hierarchy.
+#[derive(Clone, Copy, Debug, PartialEq, Eq)]
+pub enum HierarchyUse {
+    /// Those that come once far pairs took about as long as making one does.
+    Auto,
+    /// None.
+    Never,
+    /// The first ones already.
+    Now,
+}
+
 /// The settings by which costs are worked out. No cost depends on them.
 #[derive(Clone, Copy, Debug, PartialEq, Eq)]
 pub struct Plan {
@@ -61,6 +72,8 @@ pub struct Plan {
     pub at_once: AtOnce,
     /// The landmarks that a network is given at most; 0 for none. More than `MAX_LANDMARKS` are as many.
     pub landmarks: u32,
+    /// The pairs without walks for which a network is given a hierarchy.
+    pub hierarchy: HierarchyUse,
 }
 
 impl Plan {
@@ -86,6 +99,7 @@ impl Plan {
             },
             at_once: AtOnce::Auto,
             landmarks: USUAL_LANDMARKS,
+            hierarchy: HierarchyUse::Auto,
         }
     }
 

@@ -1,13 +1,14 @@
-//! The reversed rows and landmarks that a network is given before pairs are asked for. No cost depends on them.
+//! The reversed rows, landmarks and the hierarchy that a network is given before pairs are asked for. No cost depends on them.
 
 pub(crate) mod choosing;
+pub(crate) mod contracting;
 
 ghost use Rattle.std.specs.Prelude.{◌≡◌};
 ghost use Rattle.least_costs.specs.Pairs.{ArePairsWithin};
 
 use crate::network::Network;
 use crate::network::landmarks::MAX_LANDMARKS;
-use crate::plan::Plan;
+use crate::plan::{HierarchyUse, Plan};
 use crate::workers::workspace::Workspace;
 use obim_engine::Gate;
 use std::alloc::Global;
@@ -21,6 +22,19 @@ const FIRST_LANDMARKS: u32 = 4;
 /// Landmarks are chosen at once if the pairs have so many sources for each of them, and most of a sample are far.
 const SOURCES_A_LANDMARK: usize = 4;
 
+/// A hierarchy is made once far pairs took the visits of so many runs.
+const HIERARCHY_RUNS: u32 = 16;
+
+/// A hierarchy is made at once if the pairs have so many sources, and most of a sample are far.
+const SOURCES_OF_A_HIERARCHY: usize = 64;
+
+/// The steps that may be taken to make a hierarchy, for each vertex and each arc. A map takes half of them or less, and a
+/// random graph twice as many before it is given up by itself.
+const STEPS_A_PART: usize = 12;
+
+/// The steps that may be taken whatever the network is: some hundredths of a second.
+const MIN_STEPS: usize = 1 << 22;
+
 /// The pairs of a sample.
 const SAMPLE_PAIRS: usize = 16;
 
@@ -28,7 +42,7 @@ impl Workspace {
     /// Makes a network ready for pairs, if searches serve them. Its rows are reversed once searches have visited so much
     /// of it that this saves time. It is given landmarks once far pairs took more visits than a choice does: first a few,
     /// and then those of the plan; or all at once, if these pairs are many and far. Landmarks that gain little are given
-    /// up.
+    /// up. A hierarchy is tried in place of all landmarks, if the plan has one, and no landmarks are chosen beside it.
     pub fn prepare<H: Threads + Wait + Clock + Sync, G: Gate + Sync>(
         &mut self,
         rt: &H,
@@ -45,6 +59,14 @@ impl Workspace {
             return;
         }
         self.change_means(alloc, network);
+        if self.is_hierarchy_worth(alloc, network, plan, pairs)
+            && network.make_hierarchy(alloc, most_steps(network, plan))
+        {
+            self.near.far.begin_choice();
+        }
+        if network.has_hierarchy() && plan.hierarchy != HierarchyUse::Never {
+            return;
+        }
         let landmarks = self.worth_choosing(alloc, network, plan, pairs);
         if landmarks > 0 {
             self.near.far.begin_choice();
@@ -87,12 +109,59 @@ impl Workspace {
             return next;
         }
         let sources = (most as usize).saturating_mul(SOURCES_A_LANDMARK);
-        if count_sources(pairs) >= sources
-            && self.near.count_far(alloc, network, pairs, SAMPLE_PAIRS) > SAMPLE_PAIRS / 2
-        {
+        if self.are_many_far(alloc, network, sources, pairs) {
             most
         } else {
             0
+        }
+    }
+
+    /// Tells if a hierarchy is likely to save more time than making it takes, or is asked for, and none was tried.
+    fn is_hierarchy_worth(
+        &mut self,
+        alloc: Global,
+        network: &Network,
+        plan: Plan,
+        pairs: &[(u32, u32)],
+    ) -> bool
+        requires { ArePairsWithin network.now.n pairs.now }
+    {
+        if network.was_contracted() {
+            return false;
+        }
+        let has_some = network.landmark_count() > 0;
+        match plan.hierarchy {
+            HierarchyUse::Never => false,
+            HierarchyUse::Now => true,
+            HierarchyUse::Auto => {
+                self.near.far.exceed(has_some, HIERARCHY_RUNS, network.n())
+                    || self.are_many_far(alloc, network, SOURCES_OF_A_HIERARCHY, pairs)
+            }
+        }
+    }
+
+    /// Tells if these pairs have at least so many sources, and most of a sample are far.
+    fn are_many_far(
+        &mut self,
+        alloc: Global,
+        network: &Network,
+        sources: usize,
+        pairs: &[(u32, u32)],
+    ) -> bool
+        requires { ArePairsWithin network.now.n pairs.now }
+    {
+        count_sources(pairs) >= sources
+            && self.near.count_far(alloc, network, pairs, SAMPLE_PAIRS) > SAMPLE_PAIRS / 2
+    }
+}
+
+/// The edges that may be looked at to make a hierarchy: as many as it takes if it is asked for.
+fn most_steps(network: &Network, plan: Plan) -> usize {
+    match plan.hierarchy {
+        HierarchyUse::Now => usize::MAX,
+        HierarchyUse::Auto | HierarchyUse::Never => {
+            let size = (network.n() as usize).saturating_add(network.rows().arc_count());
+            size.saturating_mul(STEPS_A_PART).max(MIN_STEPS)
         }
     }
 }

@@ -11,11 +11,12 @@ use crate::conversation::Conversation;
 use crate::initial_graph::{InitialGraph, read_initial_graph, read_some};
 use crate::query::Query;
 use crate::session::Session;
-use dimacs_text::Ask;
+use dimacs_text::{Ask, Job};
 use job_answer::{Asked, Context, Fault};
 use least_costs::Workspace;
 use obim_engine::Gate;
 use request_reader::RequestReader;
+use route_walks::Memory;
 use std::alloc::Global;
 use std::io::{Read, Write};
 use std::sync::Wait;
@@ -81,7 +82,7 @@ fn answer_by<H: Threads + Wait + Clock + Sync, R: Read, W: Write, G: Gate + Sync
     let (rt, alloc) = (context.rt, context.alloc);
     let initial = read_initial_graph(rt, alloc, reader, buffer, context.asked.limit, threads)?;
     let (at, end, has_ended, line) = (initial.at, initial.end, initial.has_ended, initial.line);
-    let mut session = Session::open(rt, alloc, initial.graph, threads)?;
+    let mut session = open_session(context, initial.graph)?;
     let last = line.saturating_sub(1);
     let greeting = Query {
         ask: Ask::Absent,
@@ -94,6 +95,21 @@ fn answer_by<H: Threads + Wait + Clock + Sync, R: Read, W: Write, G: Gate + Sync
     let mut conversation = open_conversation(alloc, session, line);
     conversation.take(context, writer, &buffer[at..end])?;
     converse(context, reader, writer, buffer, &mut conversation)
+}
+
+/// Opens a session, with a hierarchy if one is asked for before the first request.
+fn open_session<H: Threads + Wait + Clock + Sync, G: Gate + Sync>(
+    context: &Context<'_, H, G>,
+    graph: Job,
+) -> Result<Session, Memory>
+    requires limits { IsWithinLimits (content_of graph) }
+    ensures holds { IfOk result (HoldsGraph (content_of graph)) }
+    ensures kept { IfOk result AreKept }
+{
+    let threads = context.asked.settings.workers as usize;
+    let mut session = Session::open(context.rt, context.alloc, graph, threads)?;
+    session.contract_at_once(context);
+    Ok(session)
 }
 
 /// Begins the conversation about a graph. The next line has this number.

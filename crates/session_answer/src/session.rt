@@ -18,8 +18,8 @@ use crate::kind_graph::{KindGraph, ReplyOutcome};
 use crate::query::Query;
 use crate::terms::asked_by;
 use answer_lines::put_refusal;
-use dimacs_text::{HeadForm, Job};
-use job_answer::{Answer, Context, Fault, graphs_for, write_whole};
+use dimacs_text::{Ask, HeadForm, Job};
+use job_answer::{Answer, Context, Fault, HierarchyUse, graphs_for, write_whole};
 use least_costs::Workspace;
 use obim_engine::Gate;
 use request_reader::Request;
@@ -70,6 +70,23 @@ impl Session {
             },
             other: None,
         })
+    }
+
+    /// Makes a hierarchy of the weights, if it is asked for before the first request.
+    pub(crate) fn contract_at_once<H: Threads + Wait + Clock + Sync, G: Gate + Sync>(
+        &mut self,
+        context: &Context<'_, H, G>,
+    )
+        ensures { self.new ≡ self.old }
+    {
+        if context.asked.hierarchy != HierarchyUse::Now {
+            return;
+        }
+        if matches!(context.asked.answer, Answer::Distances) {
+            let none = Ask::Pairs(Vec::new(context.alloc));
+            self.weights
+                .prepare(context, &none, &mut Some(Workspace::new()));
+        }
     }
 
     /// Replies to a request: what it asks for, or in one line why it is refused. If memory is refused for what it asks

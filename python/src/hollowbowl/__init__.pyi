@@ -17,6 +17,7 @@ _Number = float | Decimal | Fraction
 _Cost = int | Any
 _Seconds = float | None
 _Workers = int | Literal["auto"] | None
+_Hierarchy = Literal["auto", "no", "now"] | None
 _One = int | str | bytes
 _Costs = NDArray[Any]
 # It is called with how many items are done, and of how many.
@@ -38,41 +39,47 @@ class Graph:
     def __init__(
         self, tails: Iterable[int], heads: Iterable[int], weights: Iterable[_Number] | None = None,
         n: int | None = None, *, directed: bool = True, scale: int | None = None, rounded: bool = False,
-        workers: _Workers = None, landmarks: int | None = None, programs: int = 1,
+        workers: _Workers = None, landmarks: int | None = None, hierarchy: _Hierarchy = None, programs: int = 1,
         names: Iterable[Hashable] | None = None, keep: bool = True,
     ) -> None: ...
     @classmethod
     def from_edges(
         cls, edges: Iterable[_Edge | _Pair], *, nodes: Iterable[Hashable] = (), default: _Number | None = None,
         directed: bool = True, scale: int | None = None, rounded: bool = False, workers: _Workers = None,
-        landmarks: int | None = None, programs: int = 1, keep: bool = True,
+        landmarks: int | None = None, hierarchy: _Hierarchy = None, programs: int = 1,
+        keep: bool = True,
     ) -> Self: ...
     @classmethod
     def from_gr(
         cls, path: str | PathLike[str], *, scale: int | None = None, rounded: bool = False, workers: _Workers = None,
-        landmarks: int | None = None, programs: int = 1, keep: bool = True,
+        landmarks: int | None = None, hierarchy: _Hierarchy = None, programs: int = 1,
+        keep: bool = True,
     ) -> Self: ...
     @classmethod
     def from_columns(
         cls, table: Any, source: Any = "source", target: Any = "target", weight: Any = "weight", *,
         nodes: Iterable[Hashable] = (), directed: bool = True, scale: int | None = None, rounded: bool = False,
-        workers: _Workers = None, landmarks: int | None = None, programs: int = 1, keep: bool = True,
+        workers: _Workers = None, landmarks: int | None = None, hierarchy: _Hierarchy = None, programs: int = 1,
+        keep: bool = True,
     ) -> Self: ...
     @classmethod
     def from_pandas(
         cls, frame: Any, source: Any = "source", target: Any = "target", weight: Any = "weight", *,
         nodes: Iterable[Hashable] = (), directed: bool = True, scale: int | None = None, rounded: bool = False,
-        workers: _Workers = None, landmarks: int | None = None, programs: int = 1, keep: bool = True,
+        workers: _Workers = None, landmarks: int | None = None, hierarchy: _Hierarchy = None, programs: int = 1,
+        keep: bool = True,
     ) -> Self: ...
     @classmethod
     def from_networkx(
         cls, other: Any, weight: str | None = "weight", *, scale: int | None = None, rounded: bool = False,
-        workers: _Workers = None, landmarks: int | None = None, programs: int = 1, keep: bool = True,
+        workers: _Workers = None, landmarks: int | None = None, hierarchy: _Hierarchy = None, programs: int = 1,
+        keep: bool = True,
     ) -> Self: ...
     @classmethod
     def from_scipy(
         cls, matrix: Any, *, directed: bool = True, scale: int | None = None, rounded: bool = False,
-        workers: _Workers = None, landmarks: int | None = None, programs: int = 1, keep: bool = True,
+        workers: _Workers = None, landmarks: int | None = None, hierarchy: _Hierarchy = None, programs: int = 1,
+        keep: bool = True,
     ) -> Self: ...
     @property
     def n(self) -> int: ...

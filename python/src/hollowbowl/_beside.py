@@ -38,7 +38,7 @@ class Beside(Making):
         graph._scale = self._scale if names is None else None
         graph._rounding, graph._is_directed = self._rounding, self._is_directed
         graph._names = self._names if names is None else names
-        graph._begin(kept, self._workers, self._landmarks, programs, True, seconds)
+        graph._begin(kept, self._options, programs, True, seconds)
         return graph
 
     def _asked(self, to, timeout):

@@ -16,7 +16,7 @@ class Making(Asked):
 
     def __init__(
         self, tails, heads, weights=None, n=None, *, directed=True, scale=None, rounded=False, workers=None,
-        landmarks=None, programs=1, names=None, keep=True
+        landmarks=None, hierarchy=None, programs=1, names=None, keep=True
     ):
         """The graph of these arcs among `n` vertices; without `n` up to the greatest that an arc has.
 
@@ -24,8 +24,10 @@ class Making(Asked):
         With `names` vertices have these names in turn, as those that `pandas.factorize` gives beside its numbers.
         With `keep=False` Python keeps no arcs, so no other program can begin if this one is killed. With several
         programs near questions don't wait for far ones; each has the graph in memory. Up to `landmarks` vertices, 16 if
-        that is None, serve far pairs once there were some; with 0 none do.
+        that is None, serve far pairs once there were some; with 0 none do. A hierarchy serves far pairs of a map. It is
+        made once they took as long, with `hierarchy="now"` at once, and with "no" never.
         """
+        options = as_options(workers, landmarks, hierarchy)
         self._measure(directed, scale, rounded)
         tails = as_column("tails", tails, MOST_VERTICES - 1)
         heads = as_column("heads", heads, MOST_VERTICES - 1)
@@ -37,12 +39,12 @@ class Making(Asked):
             raise ValueError(f"n is {n!r}, where a whole number from {least} to {MOST_VERTICES} is wanted")
         self._names = Names(count, names)
         columns = (tails, heads, weights) if directed else both_ways(tails, heads, weights)
-        self._begin(Columns(count, *columns), workers, landmarks, programs, keep)
+        self._begin(Columns(count, *columns), options, programs, keep)
 
     @classmethod
     def from_edges(
         cls, edges, *, nodes=(), default=None, directed=True, scale=None, rounded=False, workers=None, landmarks=None,
-        programs=1, keep=True
+        hierarchy=None, programs=1, keep=True
     ):
         """The graph of edges `(tail, head, weight)` whose ends are any hashable names, in the order in which they come.
 
@@ -52,12 +54,14 @@ class Making(Asked):
         tails, heads, weights, names = _from.edges(edges, nodes, default)
         options = dict(
             directed=directed, scale=scale, rounded=rounded, workers=workers, landmarks=landmarks,
-            programs=programs, keep=keep
+            hierarchy=hierarchy, programs=programs, keep=keep
         )
         return cls(tails, heads, weights, len(names), names=names, **options)
 
     @classmethod
-    def from_gr(cls, path, *, scale=None, rounded=False, workers=None, landmarks=None, programs=1, keep=True):
+    def from_gr(
+        cls, path, *, scale=None, rounded=False, workers=None, landmarks=None, hierarchy=None, programs=1, keep=True
+    ):
         """The graph of a file in the `.gr` format, whose vertices count from 1: vertex 0 here is 1 there.
 
         Each line is an arc, so a road both ways is two. A file that ends with `.gz` is unpacked. What is more than a
@@ -67,14 +71,15 @@ class Making(Asked):
         """
         graph = cls.__new__(cls)
         graph._measure(True, scale, rounded)
-        graph._begin(File(path), workers, landmarks, programs, keep)
+        options = as_options(workers, landmarks, hierarchy)
+        graph._begin(File(path), options, programs, keep)
         graph._names = Names(graph._wire.state.session.n)
         return graph
 
     @classmethod
     def from_columns(
         cls, table, source="source", target="target", weight="weight", *, nodes=(), directed=True, scale=None,
-        rounded=False, workers=None, landmarks=None, programs=1, keep=True
+        rounded=False, workers=None, landmarks=None, hierarchy=None, programs=1, keep=True
     ):
         """The graph of a table's rows, by the names of its columns; with `weight=None` each weighs 1.
 
@@ -84,25 +89,26 @@ class Making(Asked):
         tails, heads, weights, names = _from.columns(table, source, target, weight, nodes)
         options = dict(
             directed=directed, scale=scale, rounded=rounded, workers=workers, landmarks=landmarks,
-            programs=programs, keep=keep
+            hierarchy=hierarchy, programs=programs, keep=keep
         )
         return cls(tails, heads, weights, len(names), names=names, **options)
 
     @classmethod
     def from_pandas(
         cls, frame, source="source", target="target", weight="weight", *, nodes=(), directed=True, scale=None,
-        rounded=False, workers=None, landmarks=None, programs=1, keep=True
+        rounded=False, workers=None, landmarks=None, hierarchy=None, programs=1, keep=True
     ):
         """The graph of a DataFrame's rows (`from_columns`), as `networkx.from_pandas_edgelist` takes it."""
         options = dict(
             directed=directed, scale=scale, rounded=rounded, workers=workers, landmarks=landmarks,
-            programs=programs, keep=keep
+            hierarchy=hierarchy, programs=programs, keep=keep
         )
         return cls.from_columns(frame, source, target, weight, nodes=nodes, **options)
 
     @classmethod
     def from_networkx(
-        cls, other, weight="weight", *, scale=None, rounded=False, workers=None, landmarks=None, programs=1, keep=True
+        cls, other, weight="weight", *, scale=None, rounded=False, workers=None, landmarks=None, hierarchy=None,
+        programs=1, keep=True
     ):
         """The graph of a networkx graph, in which an edge without a weight has 1, and with `weight=None` each.
 
@@ -111,13 +117,14 @@ class Making(Asked):
         tails, heads, weights, names = _from.networkx(other, weight)
         options = dict(
             directed=other.is_directed(), scale=scale, rounded=rounded, workers=workers, landmarks=landmarks,
-            programs=programs, keep=keep
+            hierarchy=hierarchy, programs=programs, keep=keep
         )
         return cls(tails, heads, weights, len(names), names=names, **options)
 
     @classmethod
     def from_scipy(
-        cls, matrix, *, directed=True, scale=None, rounded=False, workers=None, landmarks=None, programs=1, keep=True
+        cls, matrix, *, directed=True, scale=None, rounded=False, workers=None, landmarks=None, hierarchy=None,
+        programs=1, keep=True
     ):
         """The graph of a sparse matrix of scipy: an arc for each entry that is stored, from its row to its column.
 
@@ -126,7 +133,7 @@ class Making(Asked):
         tails, heads, weights, n = _from.scipy(matrix)
         options = dict(
             directed=directed, scale=scale, rounded=rounded, workers=workers, landmarks=landmarks,
-            programs=programs, keep=keep
+            hierarchy=hierarchy, programs=programs, keep=keep
         )
         return cls(tails, heads, weights, n, **options)
 
@@ -135,11 +142,11 @@ class Making(Asked):
         self._is_directed = bool(directed)
         self._scale, self._rounding = as_scale(scale), Rounding() if rounded else None
 
-    def _begin(self, kept, workers, landmarks, programs, keep, seconds=-1):
-        self._workers, self._landmarks, self._programs = workers, landmarks, programs
+    def _begin(self, kept, options, programs, keep, seconds=-1):
+        self._options, self._programs = options, programs
         self._others = {}
         try:
-            self._wire = Wire(kept, as_options(workers, landmarks), keep, as_programs(programs, keep))
+            self._wire = Wire(kept, options, keep, as_programs(programs, keep))
         except BaseException:
             kept.close()
             raise

@@ -20,6 +20,7 @@ MOST_WEIGHT = 2**32 - 1
 MOST_WORKERS = 64
 MOST_PROGRAMS = 64
 MOST_LANDMARKS = 64
+HIERARCHIES = "auto", "no", "now"
 
 # Rows of so many bytes are made without a look at the memory.
 _FEW_BYTES = 1 << 26
@@ -57,8 +58,8 @@ def as_seconds(timeout):
     return min(float(timeout), threading.TIMEOUT_MAX)
 
 
-def as_options(workers, landmarks):
-    """How many workers and landmarks, as options of the program; ValueError if it takes no such number."""
+def as_options(workers, landmarks, hierarchy):
+    """Workers, landmarks and when a hierarchy is made, as options of the program; ValueError if it takes none such."""
     options = []
     if workers is not None:
         number = workers if workers == "auto" else whole(workers)
@@ -71,6 +72,10 @@ def as_options(workers, landmarks):
         if number is None or not 0 <= number <= MOST_LANDMARKS:
             raise ValueError(f"landmarks is {landmarks!r}, where a whole number from 0 to {MOST_LANDMARKS} is wanted")
         options += ["--landmarks", str(number)]
+    if hierarchy is not None:
+        if not isinstance(hierarchy, str) or hierarchy not in HIERARCHIES:
+            raise ValueError(f"hierarchy is {hierarchy!r}, where 'auto', 'no' or 'now' is wanted")
+        options += ["--hierarchy", hierarchy]
     return options
 
 

@@ -3,7 +3,7 @@
 ghost use Rattle.std.specs.Prelude.{◌≡◌, ◌≤◌, IfOk};
 
 use crate::asked::network_of;
-use least_costs::{AtOnce, Cost, Costs, Network, Plan, Solver};
+use least_costs::{AtOnce, Cost, Costs, HierarchyUse, Network, Plan, Solver};
 use route_walks::{
     ArcRec, INF, Memory, Seed, are_seeds, both_ways, is_graph, plain_labels, unit_weights,
 };
@@ -117,6 +117,7 @@ fn expect_plain<H: Threads + Wait + Clock + Abort + Sync>(
         settings: Plan::usual(workers).settings,
         at_once: AtOnce::Most(2),
         landmarks: 0,
+        hierarchy: HierarchyUse::Never,
     };
     let (n, solver) = (network.n(), Solver::new(network, plan));
     let mut each = solver.each(alloc, &SOURCES);

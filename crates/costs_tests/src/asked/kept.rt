@@ -4,7 +4,7 @@ ghost use Rattle.std.specs.Prelude.{◌≡◌, ◌<◌, true};
 ghost use Rattle.least_costs.specs.Pairs.{ArePairsWithin};
 
 use crate::asked::{path, six, tree};
-use least_costs::{Network, Plan, Solver, Unwatched, Workers, Workspace};
+use least_costs::{HierarchyUse, Network, Plan, Solver, Unwatched, Workers, Workspace};
 use obim_engine::OpenGate;
 use route_walks::{INF, Memory};
 use std::alloc::Global;
@@ -159,7 +159,11 @@ pub fn prepare<H: Threads + Wait + Clock + Sync>(
     ensures { network.new ≡ network.old }
 {
     if let Some(kept) = kept {
-        kept.prepare(rt, alloc, network, Plan::usual(1), &OpenGate, &[]);
+        let plan = Plan {
+            hierarchy: HierarchyUse::Never,
+            ..Plan::usual(1)
+        };
+        kept.prepare(rt, alloc, network, plan, &OpenGate, &[]);
     }
 }
 

@@ -1,4 +1,4 @@
-//! Pairs by landmarks: the costs of whole runs, with fewer visits.
+//! Pairs by landmarks and by a hierarchy: the costs of whole runs, with fewer visits.
 
 ghost use Rattle.std.specs.Prelude.{◌≡◌, IfOk};
 
@@ -16,14 +16,16 @@ use std::test::Fail;
 use std::thread::Threads;
 use std::time::Clock;
 
-/// The workers, true if the thread that asks searches, and the landmarks.
-const CALLS: [(u32, bool, u32); 6] = [
-    (1, true, 8),
-    (1, false, 8),
-    (2, false, 3),
-    (4, false, 16),
-    (3, true, 1),
-    (1, true, 0),
+/// The workers, true if the thread that asks searches, the landmarks, and true if there is a hierarchy, which stays.
+const CALLS: [(u32, bool, u32, bool); 8] = [
+    (1, true, 8, false),
+    (1, false, 8, false),
+    (2, false, 3, false),
+    (4, false, 16, false),
+    (3, true, 1, false),
+    (1, true, 0, false),
+    (1, true, 4, true),
+    (3, true, 0, true),
 ];
 
 /// A network of `n` vertices with the streets of a square. No street leads to the vertices that are no crossings.
@@ -90,12 +92,12 @@ fn push_street(
     Ok(())
 }
 
-/// The costs of pairs by landmarks of a network, of which there are at most so many.
+/// The costs of pairs by landmarks of a network, of which there are at most so many, and by a hierarchy if wanted.
 fn costs_by<H: Threads + Wait + Clock + Abort + Sync>(
     rt: &H,
     alloc: Global,
     network: &mut Network,
-    (workers, searches, count): (u32, bool, u32),
+    (workers, searches, count, contracts): (u32, bool, u32, bool),
     pairs: &[(u32, u32)],
 ) -> Result<Vec<Option<u64>>, Fail> {
     let within = pairs.len() < 1000 && are_within(network.n(), pairs);
@@ -106,6 +108,9 @@ fn costs_by<H: Threads + Wait + Clock + Abort + Sync>(
     };
     let chosen = network.choose_landmarks(rt, alloc, plan)?;
     assert!(rt; chosen <= count as usize && network.has_landmarks());
+    if contracts {
+        network.make_hierarchy(alloc, usize::MAX);
+    }
     let mut kept = Some(Workspace::new().searching(searches));
     let solver = Solver::new(network, plan);
     let found = solver.between_grown(rt, alloc, pairs, None, &mut kept, &mut Unwatched)?;
@@ -113,8 +118,8 @@ fn costs_by<H: Threads + Wait + Clock + Abort + Sync>(
     Ok(found.costs)
 }
 
-/// Asserts that pairs cost by landmarks what they cost without.
-fn expect_same<H: Threads + Wait + Clock + Abort + Sync>(
+/// Asserts that pairs cost by landmarks, and by a hierarchy, what they cost without.
+pub(crate) fn expect_same<H: Threads + Wait + Clock + Abort + Sync>(
     rt: &H,
     alloc: Global,
     network: &mut Network,

@@ -8,8 +8,8 @@ ghost use Rattle.least_costs.specs.Network.{GrowsTo};
 
 use crate::asked::{expect_costs, expect_within, six};
 use least_costs::{
-    AtOnce, Cost, Costs, CostsBelow, CostsWithin, Network, NetworkFault, NetworkGrowth, Plan,
-    Solver, Start, WarmPool, Workers,
+    AtOnce, Cost, Costs, CostsBelow, CostsWithin, HierarchyUse, Network, NetworkFault,
+    NetworkGrowth, Plan, Solver, Start, WarmPool, Workers,
 };
 use obim_engine::{Goal, OpenGate};
 use route_walks::{ArcRec, EXAMPLE_ARCS, Memory, arcs, refusable, tried_again};
@@ -411,6 +411,7 @@ fn refused_of_each<H: Threads + Wait + Clock + Abort + Sync>(
         settings: Plan::usual(workers).settings,
         at_once: AtOnce::Most(at_once),
         landmarks: 0,
+        hierarchy: HierarchyUse::Never,
     };
     let solver = Solver::new(network, plan);
     let mut each = solver.each(alloc, &[0, 0, 0, 0]);

@@ -3,7 +3,7 @@
 ghost use Rattle.std.specs.Prelude.{◌≡◌, IfOk, IfSome};
 
 use crate::asked::{expect_costs, network_of, path, six};
-use least_costs::{AtOnce, Cost, Costs, Network, Plan, Solver, Unwatched};
+use least_costs::{AtOnce, Cost, Costs, HierarchyUse, Network, Plan, Solver, Unwatched};
 use obim_engine::{Gate, Settings};
 use route_walks::{ArcRec, Memory};
 use std::alloc::Global;
@@ -48,6 +48,7 @@ fn plan_of(rt: &impl Abort, workers: u32, fitted: bool, at_once: AtOnce) -> Plan
         settings,
         at_once,
         landmarks: 0,
+        hierarchy: HierarchyUse::Never,
     }
 }
 

@@ -12,6 +12,7 @@ ghost use Rattle.job_answer.specs.Sinks.{Puts};
 ghost use Rattle.job_answer.specs.Solves.{AreCostsFor, IsRest};
 ghost use Rattle.job_answer.specs.Solves.{IsStartBlock, IsStartLines, goal_of};
 ghost use Rattle.job_answer.specs.Tasks.{IsBlockText, IsSourceBlock};
+ghost use Rattle.job_answer.specs.declared.solving.source_tasks.SourceTasks.{SourceTasks};
 ghost use Rattle.job_answer.specs.LineWalks.{AreWalksFor, HasVertexLines, has_walks};
 ghost use Rattle.job_answer.specs.Within.{IsLinesBlock};
 ghost use Rattle.least_costs.specs.declared.start.Start.TheVariants.{At};
@@ -51,6 +52,23 @@ pub struct BlockText {
 
 impl<'a> Tasks<BlockText> for SourceTasks<'a> {
     ghost is_part = { IsBlockText };
+}
+
+/// Tasks that threads share. A function that takes them by this bound is given that they may, and the search for that need not
+/// go through two networks there.
+trait SharedSources: Sync {
+    ghost seen: { Self → SourceTasks };
+
+    fn tasks(&self) -> &SourceTasks<'_>
+        ensures { result.now ≡ seen self.now };
+}
+
+impl<'a> SharedSources for SourceTasks<'a> {
+    ghost seen = { λ tasks. tasks };
+
+    fn tasks(&self) -> &SourceTasks<'_> {
+        self
+    }
 }
 
 /// Puts the block of each source in turn. If the network grows, that in the grown one comes after each.
@@ -132,26 +150,26 @@ fn put_block_at<H: Threads + Wait + Clock + Sync, W: Write, G: Gate + Sync>(
 }
 
 /// The block of the source at a place, if it was made before.
-fn take_block<H: Threads + Wait + Clock + Sync, G: Gate + Sync>(
+fn take_block<H: Threads + Wait + Clock + Sync, G: Gate + Sync, S: SharedSources>(
     env: &Env<'_, H>,
     queue: &mut TaskQueue<'_, BlockText, G>,
-    tasks: &SourceTasks<'_>,
+    shared: &S,
     place: usize,
 ) -> Option<BlockText>
-    requires graphs { AreGraphs tasks.now.question.graphs.now }
-    requires made { AreFinished (IsBlockText tasks.now) queue.old.made.items }
-    ensures left { AreFinished (IsBlockText tasks.now) queue.new.made.items }
-    ensures text { IfSome result (IsBlockText tasks.now place) }
+    requires graphs { AreGraphs (S.seen shared.now).question.graphs.now }
+    requires made { AreFinished (IsBlockText (S.seen shared.now)) queue.old.made.items }
+    ensures left { AreFinished (IsBlockText (S.seen shared.now)) queue.new.made.items }
+    ensures text { IfSome result (IsBlockText (S.seen shared.now) place) }
 {
     queue.take(
         env.rt,
         env.alloc,
-        tasks,
+        shared.tasks(),
         &|place: usize, workers: &mut Workers<'_, TeamGate<'_, G>>| -> Option<BlockText>
-            requires sync { IsSync H.row × IsSync G.row }
-            requires graphs { AreGraphs tasks.now.question.graphs.now }
-            ensures { IfSome result (IsBlockText tasks.entry.now place) }
-        { make_block(env, tasks, place, workers) },
+            requires sync { IsSync H.row × IsSync G.row × IsSync S.row }
+            requires graphs { AreGraphs (S.seen shared.now).question.graphs.now }
+            ensures { IfSome result (IsBlockText (S.seen shared.entry.now) place) }
+        { make_block(env, shared.tasks(), place, workers) },
         place,
     )
 }

@@ -14,6 +14,7 @@ ghost use Rattle.job_answer.specs.Sinks.{Puts};
 ghost use Rattle.job_answer.specs.Solves.{AreEachTold, AreTargetsOf, AreWalkedBelow, IsForQueries, IsWalked};
 ghost use Rattle.job_answer.specs.Solves.{IsWalkedAfter, walked_text, walked_after_text, with_growth};
 ghost use Rattle.job_answer.specs.Tasks.{AreLines, IsLinesText, IsWalkedBlock};
+ghost use Rattle.job_answer.specs.declared.output.walked_pairs.WalkTasks.{WalkTasks};
 
 use crate::laws;
 use crate::output::line_walks::{LineWalks, put_walk_line, walks_below};
@@ -55,6 +56,23 @@ impl<'a> Tasks<LinesText> for WalkTasks<'a> {
 
     fn after(&self, place: usize) -> usize {
         next_source(self.queries.pairs, place)
+    }
+}
+
+/// Tasks that threads share. A function that takes them by this bound is given that they may, and the search for that need not
+/// go through two networks there.
+trait SharedWalks: Sync {
+    ghost seen: { Self → WalkTasks };
+
+    fn tasks(&self) -> &WalkTasks<'_>
+        ensures { result.now ≡ seen self.now };
+}
+
+impl<'a> SharedWalks for WalkTasks<'a> {
+    ghost seen = { λ tasks. tasks };
+
+    fn tasks(&self) -> &WalkTasks<'_> {
+        self
     }
 }
 
@@ -143,26 +161,26 @@ fn put_lines_at<H: Threads + Wait + Clock + Sync, W: Write, G: Gate + Sync>(
 }
 
 /// The lines of a task, if they were made before.
-fn take_lines<H: Threads + Wait + Clock + Sync, G: Gate + Sync>(
+fn take_lines<H: Threads + Wait + Clock + Sync, G: Gate + Sync, S: SharedWalks>(
     env: &Env<'_, H>,
     queue: &mut TaskQueue<'_, LinesText, G>,
-    tasks: &WalkTasks<'_>,
+    shared: &S,
     place: usize,
 ) -> Option<LinesText>
-    requires graphs { AreGraphs tasks.now.queries.graphs.now }
-    requires made { AreFinished (AreLines tasks.now) queue.old.made.items }
-    ensures left { AreFinished (AreLines tasks.now) queue.new.made.items }
-    ensures text { IfSome result (AreLines tasks.now place) }
+    requires graphs { AreGraphs (S.seen shared.now).queries.graphs.now }
+    requires made { AreFinished (AreLines (S.seen shared.now)) queue.old.made.items }
+    ensures left { AreFinished (AreLines (S.seen shared.now)) queue.new.made.items }
+    ensures text { IfSome result (AreLines (S.seen shared.now) place) }
 {
     queue.take(
         env.rt,
         env.alloc,
-        tasks,
+        shared.tasks(),
         &|place: usize, workers: &mut Workers<'_, TeamGate<'_, G>>| -> Option<LinesText>
-            requires sync { IsSync H.row × IsSync G.row }
-            requires graphs { AreGraphs tasks.now.queries.graphs.now }
-            ensures { IfSome result (AreLines tasks.entry.now place) }
-        { make_lines(env, tasks, place, workers) },
+            requires sync { IsSync H.row × IsSync G.row × IsSync S.row }
+            requires graphs { AreGraphs (S.seen shared.now).queries.graphs.now }
+            ensures { IfSome result (AreLines (S.seen shared.entry.now) place) }
+        { make_lines(env, shared.tasks(), place, workers) },
         place,
     )
 }

@@ -1,6 +1,7 @@
 //! The questions to a job text.
 
 ghost use Rattle.std.specs.Prelude.{◌≡◌, ◌↔◌, false, IsSome, IsTrue, IfSome};
+ghost use Rattle.least_costs.specs.declared.plan.HierarchyUse.TheVariants as hierarchy_use;
 ghost use Rattle.least_costs.specs.declared.plan.TheConstants.{USUAL_LANDMARKS};
 ghost use Rattle.job_answer.specs.Choices.{IsAsked, IsLinesAsked};
 ghost use Rattle.job_answer.specs.declared.question.asked.Lines.TheVariants as lines;
@@ -8,7 +9,7 @@ ghost use Rattle.job_answer.specs.LineWalks.{bound_in, bound_of, has_raw_pairs, 
 ghost use Rattle.job_answer.specs.LineWalks.{is_totals};
 ghost use Rattle.job_answer.specs.Solves.{goal_of};
 
-use least_costs::{AtOnce, USUAL_LANDMARKS};
+use least_costs::{AtOnce, HierarchyUse, USUAL_LANDMARKS};
 use obim_engine::{Goal, Settings};
 use route_walks::INF;
 
@@ -128,6 +129,8 @@ pub struct Asked {
     pub at_once: AtOnce,
     /// The landmarks that a network is given at most, if that saves time; 0 for none.
     pub landmarks: u32,
+    /// The pairs without walks for which a network is given a hierarchy.
+    pub hierarchy: HierarchyUse,
     /// True if one worker works alone in a small graph.
     pub saves: bool,
     ghost within: { IsAsked answer lines limit },
@@ -143,6 +146,7 @@ impl Asked {
         ensures limit { IfSome result (λ asked. asked.limit ≡ limit) }
         ensures at_once { IfSome result (λ asked. asked.at_once ≡ AtOnce.Auto) }
         ensures landmarks { IfSome result (λ asked. asked.landmarks ≡ USUAL_LANDMARKS) }
+        ensures hierarchy { IfSome result (λ asked. asked.hierarchy ≡ hierarchy_use.Auto) }
         ensures saves { IfSome result (λ asked. asked.saves ≡ false) }
     {
         Asked::by_lines(answer, settings, Lines::Each { walks }, limit)
@@ -157,6 +161,7 @@ impl Asked {
         ensures limit { IfSome result (λ asked. asked.limit ≡ limit) }
         ensures at_once { IfSome result (λ asked. asked.at_once ≡ AtOnce.Auto) }
         ensures landmarks { IfSome result (λ asked. asked.landmarks ≡ USUAL_LANDMARKS) }
+        ensures hierarchy { IfSome result (λ asked. asked.hierarchy ≡ hierarchy_use.Auto) }
         ensures saves { IfSome result (λ asked. asked.saves ≡ false) }
     {
         if limit > MAX_BYTES || !lines.has_cost() {
@@ -172,6 +177,7 @@ impl Asked {
             limit,
             at_once: AtOnce::Auto,
             landmarks: USUAL_LANDMARKS,
+            hierarchy: HierarchyUse::Auto,
             saves: false,
         })
     }
@@ -185,6 +191,7 @@ impl Asked {
         ensures limit { result.limit ≡ self.limit }
         ensures at_once { result.at_once ≡ self.at_once }
         ensures landmarks { result.landmarks ≡ self.landmarks }
+        ensures hierarchy { result.hierarchy ≡ self.hierarchy }
         ensures saves { result.saves ≡ self.saves }
     {
         let mut asked = self;
@@ -201,6 +208,7 @@ impl Asked {
         ensures limit { result.limit ≡ self.limit }
         ensures at_once { result.at_once ≡ at_once }
         ensures landmarks { result.landmarks ≡ self.landmarks }
+        ensures hierarchy { result.hierarchy ≡ self.hierarchy }
         ensures saves { result.saves ≡ self.saves }
     {
         let mut asked = self;
@@ -216,10 +224,27 @@ impl Asked {
         ensures limit { result.limit ≡ self.limit }
         ensures at_once { result.at_once ≡ self.at_once }
         ensures landmarks { result.landmarks ≡ landmarks }
+        ensures hierarchy { result.hierarchy ≡ self.hierarchy }
         ensures saves { result.saves ≡ self.saves }
     {
         let mut asked = self;
         asked.landmarks = landmarks;
+        asked
+    }
+
+    /// Returns this with a hierarchy for other pairs, or for none.
+    pub fn with_hierarchy(self, hierarchy: HierarchyUse) -> Asked
+        ensures answer { result.answer ≡ self.answer }
+        ensures lines { result.lines ≡ self.lines }
+        ensures settings { result.settings ≡ self.settings }
+        ensures limit { result.limit ≡ self.limit }
+        ensures at_once { result.at_once ≡ self.at_once }
+        ensures landmarks { result.landmarks ≡ self.landmarks }
+        ensures hierarchy { result.hierarchy ≡ hierarchy }
+        ensures saves { result.saves ≡ self.saves }
+    {
+        let mut asked = self;
+        asked.hierarchy = hierarchy;
         asked
     }
 
@@ -231,6 +256,7 @@ impl Asked {
         ensures limit { result.limit ≡ self.limit }
         ensures at_once { result.at_once ≡ self.at_once }
         ensures landmarks { result.landmarks ≡ self.landmarks }
+        ensures hierarchy { result.hierarchy ≡ self.hierarchy }
         ensures saves { result.saves ≡ self.saves }
     {
         let mut asked = self;
@@ -246,6 +272,7 @@ impl Asked {
         ensures limit { result.limit ≡ self.limit }
         ensures at_once { result.at_once ≡ self.at_once }
         ensures landmarks { result.landmarks ≡ self.landmarks }
+        ensures hierarchy { result.hierarchy ≡ self.hierarchy }
         ensures saves { result.saves ≡ saves }
     {
         let mut asked = self;

@@ -1,6 +1,6 @@
 //! The networks of an answer: of a job's arcs, and with the added ones.
 
-ghost use Rattle.std.specs.Prelude.{◌≡◌, ◌≤◌, ◌^◌, All, List, None, length, IfOk, IfSome, ℕ};
+ghost use Rattle.std.specs.Prelude.{◌≡◌, ◌≤◌, ◌^◌, false, All, List, None, length, IfOk, IfSome, ℕ};
 ghost use Rattle.least_costs.specs.Network.{HasArcs, IsNetworkOf, arcs_of};
 ghost use Rattle.least_costs.specs.Teams.{IsAtMost};
 ghost use Rattle.least_costs.specs.declared.cost.Cost.TheVariants.{Weight};
@@ -10,9 +10,10 @@ ghost use Rattle.dimacs_text.specs.Jobs.{IsArcWithin, added_of};
 ghost use Rattle.dimacs_text.specs.declared.form.TheConstants.{MAX_TEXT_ARCS};
 ghost use Rattle.job_answer.specs.AnswerText.{arcs_for, growth_from};
 ghost use Rattle.job_answer.specs.Graphs.{AreGraphs, AreGraphsFor, cost_for};
+ghost use Rattle.job_answer.specs.LineWalks.{has_walks};
 
 use crate::question::asked::{Answer, Asked};
-use least_costs::{Cost, Network, Plan};
+use least_costs::{Cost, HierarchyUse, Network, Plan};
 use route_walks::{ArcRec, Memory};
 use std::alloc::Global;
 use std::thread::Threads;
@@ -111,11 +112,24 @@ pub fn plan_of(asked: &Asked) -> Plan
     ensures settings { result.settings ≡ asked.now.settings }
     ensures at_once { result.at_once ≡ asked.now.at_once }
     ensures landmarks { result.landmarks ≡ asked.now.landmarks }
+    ensures hierarchy { has_walks asked.now.lines ≡ false → result.hierarchy ≡ asked.now.hierarchy }
 {
     Plan {
         settings: asked.settings,
         at_once: asked.at_once,
         landmarks: asked.landmarks,
+        hierarchy: hierarchy_use_of(asked),
+    }
+}
+
+/// The pairs that are given a hierarchy. It tells nothing of walks.
+fn hierarchy_use_of(asked: &Asked) -> HierarchyUse
+    ensures { has_walks asked.now.lines ≡ false → result ≡ asked.now.hierarchy }
+{
+    if asked.lines.has_walks() {
+        HierarchyUse::Never
+    } else {
+        asked.hierarchy
     }
 }
 

@@ -11,6 +11,7 @@ ghost use Rattle.least_costs.specs.Network.{graph_of};
 
 use crate::near::budget::SearchLimit;
 use crate::network::Network;
+use hierarchy::Hierarchy;
 use near_labels::{SearchSpace, WalksFound};
 use obim_engine::Bounds;
 use std::alloc::Global;
@@ -198,6 +199,33 @@ pub(crate) fn label_by_both(
             forward.allow(limit.visits, limit.arcs);
             backward.allow(limit.visits, limit.arcs);
             forward.cost_between(backward, &ways, source, target)
+        }
+        _ => None,
+    }
+}
+
+/// The least labels of these targets, by searches upward.
+pub(crate) fn labels_above(
+    forward: &mut Option<SearchSpace>,
+    backward: &mut Option<SearchSpace>,
+    alloc: Global,
+    network: &Network,
+    hierarchy: &Hierarchy,
+    source: u32,
+    targets: &[u32],
+) -> Option<Vec<u64>>
+    requires hierarchy { hierarchy.now.graph ≡ graph_of network.now }
+    requires source { source < network.now.n }
+    requires targets { All (λ t. t < network.now.n) targets.now }
+    ensures { IfSome result (AreLabelsTo network.now.arcs source targets.now) }
+{
+    let n = network.n() as usize;
+    match (forward, backward) {
+        (Some(forward), Some(backward)) if forward.vertices() == n && backward.vertices() == n => {
+            // They end early by themselves, and workers would visit more.
+            forward.allow(u32::MAX, usize::MAX);
+            backward.allow(u32::MAX, usize::MAX);
+            hierarchy.costs_to(alloc, forward, backward, source, targets)
         }
         _ => None,
     }

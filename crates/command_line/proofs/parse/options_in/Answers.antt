@@ -10,7 +10,7 @@ use Rattle.job_answer.specs.declared.question.asked.Lines.{Lines}
 use Rattle.job_answer.specs.declared.question.asked.Lines.TheVariants.{Each}
 use Rattle.job_answer.specs.declared.question.asked.TheConstants.{MAX_BYTES}
 use Rattle.command_line.specs.CommandLine.{AreHyphens, AsksAtOnce, AsksCost, AsksFor, AsksLandmarks, AsksLines, AsksSettings}
-use Rattle.command_line.specs.CommandLine.{IsAlone, IsAuto, IsFlag, NamesKind, NamesLabels, operands_in}
+use Rattle.command_line.specs.CommandLine.{IsAlone, IsAuto, IsFlag, NamesKind, NamesLabels, NamesUse, operands_in}
 use Rattle.command_line.specs.declared.options.Options.{Options}
 use Rattle.command_line.proofs.Finding.{none_passed}
 use Rattle.command_line.proofs.Unique.{one_flag, one_kind, one_lines}
@@ -53,6 +53,10 @@ module _ (found : Found) (options : Options) (asks : AsksFor (rows_of found) opt
   landmarks_found : AsksLandmarks (first_value found (codes "landmarks")) options.asked.landmarks
   landmarks_found = subst (λ text. AsksLandmarks text options.asked.landmarks)
       (sym (first_value-rows found (codes "landmarks"))) asks.landmarks
+
+  use_found : NamesUse (first_value found (codes "hierarchy")) options.asked.hierarchy
+  use_found = subst (λ text. NamesUse text options.asked.hierarchy)
+      (sym (first_value-rows found (codes "hierarchy"))) asks.hierarchy
 
   hyphens_found : AreHyphens (operands_of found) options.typed
   hyphens_found = subst (λ (texts : List Text). AreHyphens texts options.typed) (sym (operands-rows found)) asks.typed
@@ -100,12 +104,13 @@ returns c =
     let made = c.in-Some.ensures in
     let with = c.with_at_once.ensures in
     let marked = c.with_landmarks.ensures in
+    let contracted = c.with_hierarchy.ensures in
     let saving = c.with_saving.ensures in
     let workers = first_value-rows found (codes "workers") in
     let shift = first_value-rows found (codes "shift") in
     let chunk = first_value-rows found (codes "chunk") in
-    let answer = saving.answer ∙ marked.answer ∙ with.answer ∙ made.answer in
-    let lines_are = saving.lines ∙ marked.lines ∙ with.lines ∙ made.lines in
+    let answer = saving.answer ∙ contracted.answer ∙ marked.answer ∙ with.answer ∙ made.answer in
+    let lines_are = saving.lines ∙ contracted.lines ∙ marked.lines ∙ with.lines ∙ made.lines in
     let lines = c.in_ok-lines.ensures in
     let walks = ap has_walks lines_are ∙ lines.walked in
     record {
@@ -123,14 +128,16 @@ returns c =
         plain = λ components. lines_are ∙ lines.plain (sym answer ∙ components) ∙ ap Each (sym walks);
       };
       settings = subst (AsksSettings (first_of (codes "workers") rows) (first_of (codes "shift") rows)
-          (first_of (codes "chunk") rows)) (sym (saving.settings ∙ marked.settings ∙ with.settings ∙ made.settings))
+          (first_of (codes "chunk") rows)) (sym (saving.settings ∙ contracted.settings ∙ marked.settings ∙ with.settings ∙ made.settings))
           (rw (← workers, ← shift, ← chunk) c.in_ok-settings.ensures);
       saves = carried IsAuto _ _ _ _ workers saving.saves c.saves_workers-saves.ensures;
-      at_once = carried AsksAtOnce _ _ _ _ (first_value-rows found (codes "at-once")) (saving.at_once ∙ marked.at_once ∙ with.at_once)
+      at_once = carried AsksAtOnce _ _ _ _ (first_value-rows found (codes "at-once")) (saving.at_once ∙ contracted.at_once ∙ marked.at_once ∙ with.at_once)
           c.in_ok-at_once.ensures;
       landmarks = carried AsksLandmarks _ _ _ _ (first_value-rows found (codes "landmarks"))
-          (saving.landmarks ∙ marked.landmarks) c.in_ok-landmarks.ensures;
-      limit = saving.limit ∙ marked.limit ∙ with.limit ∙ made.limit;
+          (saving.landmarks ∙ contracted.landmarks ∙ marked.landmarks) c.in_ok-landmarks.ensures;
+      hierarchy = carried NamesUse _ _ _ _ (first_value-rows found (codes "hierarchy"))
+          (saving.hierarchy ∙ contracted.hierarchy) c.in_ok-hierarchy.ensures;
+      limit = saving.limit ∙ contracted.limit ∙ marked.limit ∙ with.limit ∙ made.limit;
       session = carried IsFlag _ _ _ _ (first_value-rows found (codes "session")) (search rules)
           c.has_flag-session.ensures;
       stats = carried IsFlag _ _ _ _ (first_value-rows found (codes "stats")) (search rules) c.has_flag-stats.ensures;
@@ -167,6 +174,11 @@ pub returns-in_err-landmarks : goal.returns-in_err-landmarks
 returns-in_err-landmarks c =
     none_passed _ _ _ _ c.from_residual-in_err-landmarks.ensures.1 c.in_err-landmarks.ensures
     (λ options asks. (options.asked.landmarks, landmarks_found (found_of c.args.matches.now) options asks))
+
+pub returns-in_err-hierarchy : goal.returns-in_err-hierarchy
+returns-in_err-hierarchy c =
+    none_passed _ _ _ _ c.from_residual-in_err-hierarchy.ensures.1 c.in_err-hierarchy.ensures
+    (λ options asks. (options.asked.hierarchy, use_found (found_of c.args.matches.now) options asks))
 
 pub returns-in_err-lines : goal.returns-in_err-lines
 returns-in_err-lines c =

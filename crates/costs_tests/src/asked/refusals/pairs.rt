@@ -162,6 +162,19 @@ fn of_network_choose_landmarks(rt: HostRuntime) -> Result<(), Fail> {
     Ok(())
 }
 
+// Pairs cost the same by the hierarchy, and without one if memory is refused.
+#[test]
+fn of_network_make_hierarchy(rt: HostRuntime) -> Result<(), Fail> {
+    let alloc = rt.alloc();
+    let mut network = six(&rt, alloc)?;
+    let made = refusable!(alloc, network.make_hierarchy(alloc, usize::MAX));
+    assert!(rt; made == network.has_hierarchy() && network.was_contracted());
+    let solver = Solver::new(&network, Plan::usual(1));
+    let costs = solver.between(&rt, alloc, &PAIRS)?;
+    assert!(rt; costs.as_slice() == [Some(0), Some(15)].as_slice());
+    Ok(())
+}
+
 #[test]
 fn of_solver_between_by_landmarks(rt: HostRuntime) -> Result<(), Fail> {
     let alloc = rt.alloc();

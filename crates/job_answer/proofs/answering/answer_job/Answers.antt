@@ -1,7 +1,9 @@
-use Rattle.std.proofs.Common.{◌∙◌, refl, sym}
+use Rattle.std.proofs.Common.{◌≡◌, ◌∙◌, false, refl, sym}
 use Rattle.std.proofs.lemmas.Result.{err_from_is_err_and}
-use Rattle.dimacs_text.specs.Jobs.{content_of}
-use Rattle.job_answer.specs.Within.{IsAnswerTextBy}
+use Rattle.dimacs_text.specs.Jobs.{IsQuestionWithin, content_of, question_of}
+use Rattle.job_answer.specs.Graphs.{AreGraphs}
+use Rattle.job_answer.specs.Outcome.{is_unasked}
+use Rattle.job_answer.specs.Within.{HasNoSources, IsAnswerTextBy}
 use Rattle.job_answer.proofs.Sinks.{writes-nothing}
 use Rattle.job_answer.proofs.Replies.{asked-if, reply-says, untold-if}
 use Rattle.job_answer.proofs.answering.answer_job.Goals as goal
@@ -17,6 +19,19 @@ returns-in_err-graphs-clause-says g c =
       has_sources = untold-if _ _ c.has_no_sources.ensures c.if-has_no_sources.false;
       cut = writes-nothing (IsAnswerTextBy kind c.args.context.now.asked.now.lines job) _;
     })
+
+pub answer_question-answered-requires-after_bounds : goal.answer_question-answered-requires-after_bounds
+answer_question-answered-requires-after_bounds g c =
+    let made = c.in_ok-graphs.ensures.graphs in
+    let asked = c.args.context.now.asked.now in
+    let question = question_of c.args.job.ask in
+    let are : AreGraphs c.prepare.new.graphs = rw c.prepare.ensures made.are in
+    let within : IsQuestionWithin c.prepare.new.graphs.network.n question =
+    rw (c.prepare.ensures, made.vertices) c.requires.limits.question in
+    let some : is_unasked asked.answer question ≡ false = sym c.is_unasked.ensures ∙ c.if-is_unasked.false in
+    let sources : ¬ (HasNoSources asked.answer asked.lines question) =
+    untold-if _ _ c.has_no_sources.ensures c.if-has_no_sources.false in
+    search (are, within, some, sources)
 
 pub returns-clause-reply : goal.returns-clause-reply
 returns-clause-reply g c =

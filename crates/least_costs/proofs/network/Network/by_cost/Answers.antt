@@ -22,6 +22,7 @@ invariant_of-result g c =
       };
       turned = tt;
       told = tt;
+      contracted = tt;
     }
 
 pub returns-clause-network : goal.returns-clause-network

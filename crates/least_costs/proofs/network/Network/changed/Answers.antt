@@ -29,6 +29,7 @@ invariant_of-result c =
       };
       turned = tt;
       told = tt;
+      contracted = tt;
     }
 
 pub returns-clause-arcs : goal.returns-clause-arcs

@@ -19,6 +19,7 @@ invariant_of-result g c =
       };
       turned = tt;
       told = tt;
+      contracted = tt;
     }
 
 pub returns-clause-arcs : goal.returns-clause-arcs

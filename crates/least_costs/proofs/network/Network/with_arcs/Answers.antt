@@ -30,6 +30,7 @@ invariant_of-result c =
       };
       turned = tt;
       told = tt;
+      contracted = tt;
     }
 
 pub returns-clause-grown : goal.returns-clause-grown
