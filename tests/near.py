@@ -110,9 +110,13 @@ def question(draw, n, rows):
             if costs[v] != "inf" and int(costs[v]) <= bound:
                 lines += [f"d {v} {costs[v]}\n", walks[v]]
         return f"p aux sp within {bound} 1\ns {source}\n", lines
-    targets = [some() for _ in range(1 if kind < 0.8 else draw.randint(2, 9))]
-    lines = [line for t in targets for line in [f"q {source} {t} {costs[t]}\n"] + ([walks[t]] if t in walks else [])]
-    return f"p aux sp p2p {len(targets)}\n" + "".join(f"q {source} {t}\n" for t in targets), lines
+    targets = [some() for _ in range(1 if kind < 0.8 else draw.randint(2, 9) if kind < 0.97 else 20)]
+    pairs = [(s, t) for s in ([source] if len(targets) < 20 else rows) for t in targets]
+    lines = []
+    for s, t in pairs:
+        costs, walks = rows[s]
+        lines += [f"q {s} {t} {costs[t]}\n"] + ([walks[t]] if t in walks else [])
+    return f"p aux sp p2p {len(pairs)}\n" + "".join(f"q {s} {t}\n" for s, t in pairs), lines
 
 
 def without_walks(lines):

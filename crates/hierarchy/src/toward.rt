@@ -59,6 +59,14 @@ impl TargetSweep {
         })
     }
 
+    /// The targets, in the order of the costs.
+    pub fn targets(&self) -> &[u32]
+        ensures targets { result.now ≡ self.now.targets }
+        ensures within { All (λ t. t < self.now.hierarchy.graph.n) result.now }
+    {
+        &self.targets
+    }
+
     /// Returns the least costs from the source to the targets, in their order; `INF` if there is no walk. Takes the time of the
     /// arcs up from the places above the targets, after a search upward. Returns `None` if the visits that the space allows
     /// don't do, or memory is refused.

@@ -4,6 +4,7 @@ use Rattle.std.specs.Prelude.{IfSome, None, Some, ⊤, slice_index}
 use denote.Ref.{Bor}
 use Rattle.least_costs.specs.Costs.{AreCostsTo, IsCostTo}
 use Rattle.least_costs.specs.Network.{GrowsTo, NetworkSeen, graph_of}
+use Rattle.least_costs.specs.declared.near.above.SharedTargets.{SharedTargets}
 use Rattle.least_costs.specs.declared.pairs.PairCosts.{PairCosts}
 use Rattle.least_costs.specs.declared.pairs.Pairs.{Pairs}
 use Rattle.least_costs.specs.declared.start.Start.{Start}
@@ -45,12 +46,18 @@ pub record AreBySource (pairs order : List (ℕ × ℕ)) : Type 0 where
   pub each : All (λ entry. (entry.1 < length pairs) × (entry.0 ≡ (pair_at pairs entry.1).0)) order
   pub all : (k : ℕ) → k < length pairs → Contains order ((pair_at pairs k).0, k)
 
+-- targets with the places above them in a hierarchy of the network
+pub record AreSharedIn (net : NetworkSeen) (shared : SharedTargets) : Type 0 where
+  pub of : shared.hierarchy.now.graph ≡ graph_of net
+  pub over : shared.sweep.hierarchy ≡ shared.hierarchy.now
+
 -- what is so of all that is asked
 pub record AreAsked (asked : Pairs) : Type 0 where
   pub order : AreBySource asked.pairs.now asked.order.now
   pub within : ArePairsWithin asked.network.now.n asked.pairs.now
   pub grows : GrowsInto asked.network.now asked.grown
   pub landmarks : IfSome asked.landmarks (λ l. l.now.graph ≡ graph_of asked.network.now)
+  pub shared : IfSome asked.shared (λ s. AreSharedIn asked.network.now s.now)
 
 -- the entries of the order from a place on are of pairs that have these costs
 abbrev pub AreCostsAt : NetworkSeen → List (ℕ × ℕ) → List (ℕ × ℕ) → ℕ → List (Option ℕ) → Type 0

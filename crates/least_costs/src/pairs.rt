@@ -1,5 +1,7 @@
 //! The costs of pairs.
 
+pub(crate) mod order;
+
 ghost use Rattle.std.specs.Prelude.{◌≡◌, ◌+◌, ◌<◌, ◌≤◌, ◌^◌, ℕ, List, All, IfOk, IfSome, OnOk, length};
 ghost use Rattle.std.specs.Thread.{IsSync};
 ghost use Rattle.label_words.specs.Closed.{IsEnd, closed_labels};
@@ -9,15 +11,17 @@ ghost use Rattle.route_walks.specs.Operators.{seeds_from};
 ghost use Rattle.least_costs.specs.Network.{IsStartWithin, NetworkSeen, graph_of, seeds_at};
 ghost use Rattle.least_costs.specs.Pairs.{AreAsked, AreBySource, AreCostsAfter, AreCostsAt, AreCostsFrom, AreFilled};
 ghost use Rattle.least_costs.specs.Pairs.{AreFilledAfter, AreGrownCostsTo, ArePairCosts, ArePairsWithin, AreTargets};
-ghost use Rattle.least_costs.specs.Pairs.{GrowsInto, IsRun};
+ghost use Rattle.least_costs.specs.Pairs.{AreSharedIn, GrowsInto, IsRun};
 ghost use Rattle.least_costs.specs.TaskQueue.{AreFinished};
 ghost use Rattle.least_costs.specs.declared.pairs.Pairs.{Pairs};
 
 use crate::costs::costs_at;
 use crate::near::Near;
+use crate::near::above::{MAX_SHORT_TARGETS, SharedTargets};
 use crate::network::Network;
 use crate::network::growth::NetworkGrowth;
 use crate::network::landmarks::Landmarks;
+use crate::pairs::order::{by_source, fill, next_source, run_end};
 use crate::progress::{Progress, Unwatched};
 use crate::solver::Solver;
 use crate::start::Start;
@@ -25,6 +29,7 @@ use crate::workers::task_queue::{TaskQueue, Tasks};
 use crate::workers::teams::TeamGate;
 use crate::workers::workspace::Workspace;
 use crate::workers::{Ended, Workers};
+use hierarchy::TargetSweep;
 use obim_engine::{Closed, Gate, Goal};
 use route_walks::Memory;
 use std::alloc::Global;
@@ -38,6 +43,8 @@ pub struct Pairs<'a> {
     pub network: &'a Network,
     pub landmarks: Option<&'a Landmarks>,
     pub grown: Option<&'a Network>,
+    /// The targets of the first source, if there are many and other sources may have the same.
+    pub shared: Option<&'a SharedTargets<'a>>,
     pub pairs: &'a [(u32, u32)],
     pub order: &'a [(u32, u32)],
 }
@@ -116,10 +123,21 @@ impl<'a, G: Gate + Sync> Solver<'a, G> {
         ensures after { IfOk result (λ found. AreCostsAfter grown.entry pairs.now found.after.items) }
     {
         let order = by_source(alloc, pairs)?;
+        let (network, landmarks) = (self.network, self.network.landmarks());
         let asked = Pairs {
-            network: self.network,
-            landmarks: self.network.landmarks(),
+            network,
+            landmarks,
             grown,
+            shared: None,
+            pairs,
+            order: &order,
+        };
+        let shared = shared_targets(alloc, &asked);
+        let asked = Pairs {
+            network,
+            landmarks,
+            grown,
+            shared: shared.as_ref(),
             pairs,
             order: &order,
         };
@@ -152,6 +170,24 @@ impl<'a, G: Gate + Sync> Solver<'a, G> {
     }
 }
 
+/// The places of a hierarchy above the targets of the first source, if these are many and other sources may share them.
+fn shared_targets<'a>(alloc: Global, asked: &Pairs<'a>) -> Option<SharedTargets<'a>>
+    requires { AreAsked asked.now }
+    ensures { IfSome result (AreSharedIn asked.now.network.now) }
+{
+    let hierarchy = asked.network.hierarchy()?;
+    if asked.order.is_empty() {
+        return None;
+    }
+    let end = run_end(asked.order, 0);
+    if end <= MAX_SHORT_TARGETS || end == asked.order.len() {
+        return None;
+    }
+    let targets = targets_of(alloc, asked, 0, end).ok()?;
+    let sweep = TargetSweep::new(alloc, hierarchy, targets)?;
+    Some(SharedTargets { hierarchy, sweep })
+}
+
 /// Makes room for the costs in the grown network.
 fn room_after(alloc: Global, asked: &Pairs<'_>) -> Result<Vec<Option<u64>>, Memory>
     ensures { IfOk result (λ after.
@@ -161,18 +197,6 @@ fn room_after(alloc: Global, asked: &Pairs<'_>) -> Result<Vec<Option<u64>>, Memo
         None => Ok(Vec::new(alloc)),
         Some(_) => Ok(vec![in alloc; None; asked.pairs.len()]?),
     }
-}
-
-fn by_source(alloc: Global, pairs: &[(u32, u32)]) -> Result<Vec<(u32, u32)>, Memory>
-    requires { length pairs.now < 2 ^ 32 }
-    ensures { IfOk result (λ order. AreBySource pairs.now order.items) }
-{
-    let mut order = Vec::with_capacity(alloc, pairs.len())?;
-    for (place, pair) in pairs.iter().enumerate() {
-        order.push((pair.0, place as u32))?;
-    }
-    order.sort()?;
-    Ok(order)
 }
 
 /// Fills in the cost of each pair, and that in the grown network.
@@ -321,11 +345,17 @@ fn search_targets(
     near: &mut Near,
 ) -> Option<Vec<Option<u64>>>
     requires landmarks { IfSome asked.now.landmarks (λ l. l.now.graph ≡ graph_of asked.now.network.now) }
+    requires shared { IfSome asked.now.shared (λ s. AreSharedIn asked.now.network.now s.now) }
     requires source { source < asked.now.network.now.n }
     requires targets { All (λ t. t < asked.now.network.now.n) targets.now }
     ensures { IfSome result (λ costs. AreCostsTo asked.now.network.now (At source) targets.now costs.items) }
 {
     let network = asked.network;
+    if let Some(shared) = asked.shared
+        && shared.sweep.targets() == targets
+    {
+        return near.costs_over(alloc, network, shared, source);
+    }
     if let Some(hierarchy) = network.hierarchy() {
         return near.costs_above(alloc, network, hierarchy, source, targets);
     }
@@ -433,43 +463,6 @@ fn targets_of(
         targets.push(asked.pairs[place].1)?;
     }
     Ok(targets)
-}
-
-/// The place after the last entry of this source.
-fn run_end(order: &[(u32, u32)], first: usize) -> usize
-    requires { first < length order.now }
-    ensures { IsRun order.now first result }
-{
-    let source = order[first].0;
-    let mut end = first + 1;
-    while end < order.len() && order[end].0 == source {
-        end += 1;
-    }
-    end
-}
-
-fn next_source(order: &[(u32, u32)], place: usize) -> usize {
-    if place < order.len() {
-        run_end(order, place)
-    } else {
-        place.saturating_add(1)
-    }
-}
-
-/// Fills in costs at the places that the order has from one on.
-fn fill(filled: &mut [Option<u64>], order: &[(u32, u32)], first: usize, costs: &[Option<u64>])
-    requires places { All (λ entry. entry.1 < length filled.old) order.now }
-    requires within { first + length costs.now ≤ length order.now }
-    ensures places { length filled.new ≡ length filled.old }
-    ensures filled { (net : NetworkSeen) (pairs : List (ℕ × ℕ))
-        → AreCostsAt net pairs order.now first costs.now
-        → AreFilled net pairs order.now first filled.old
-        → AreFilled net pairs order.now (first + length costs.now) filled.new }
-{
-    for (at, cost) in costs.iter().enumerate() {
-        let place = order[first + at].1 as usize;
-        filled[place] = *cost;
-    }
 }
 
 /// Fills in those in the grown network, if there is one.

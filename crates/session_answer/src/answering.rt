@@ -1,10 +1,12 @@
 //! A session, from its first byte to its last.
 
 ghost use Rattle.std.specs.Prelude.{◌<◌, ◌≤◌, ◌^◌, ℕ, List, [], Option, IfErr, IfOk, OnErr, OnOk, length};
-ghost use Rattle.dimacs_text.specs.Jobs.{content_of, Content, IsWithinLimits};
+ghost use Rattle.dimacs_text.specs.Jobs.{absent, content_of, Content, IsWithinLimits};
+ghost use Rattle.job_answer.specs.Bytes.{Writes, WritesPrefix};
+ghost use Rattle.job_answer.specs.Outcome.{IsWritingFault};
 ghost use Rattle.session_answer.specs.Conversations.{HasConversed, HasHeard, IsAnsweredSession, IsConsistent};
-ghost use Rattle.session_answer.specs.Cuts.{EndsAfterGraph, EndsBy, IsCutConversation, IsCutSession};
-ghost use Rattle.session_answer.specs.Replies.{AreKept, HoldsGraph, vertices_in};
+ghost use Rattle.session_answer.specs.Cuts.{AreCutAfterBytes, EndsAfterGraph, EndsBy, IsCutConversation, IsCutSession};
+ghost use Rattle.session_answer.specs.Replies.{AreKept, HoldsGraph, IsAnswerIn, vertices_in};
 ghost use Rattle.session_answer.specs.Terms.{Terms, terms_of};
 
 use crate::conversation::Conversation;
@@ -82,18 +84,12 @@ fn answer_by<H: Threads + Wait + Clock + Sync, R: Read, W: Write, G: Gate + Sync
     let (rt, alloc) = (context.rt, context.alloc);
     let initial = read_initial_graph(rt, alloc, reader, buffer, context.asked.limit, threads)?;
     let (at, end, has_ended, line) = (initial.at, initial.end, initial.has_ended, initial.line);
-    let mut session = open_session(context, initial.graph)?;
     let last = line.saturating_sub(1);
-    let greeting = Query {
-        ask: Ask::Absent,
-        line: last,
-    };
-    session.answer(context, writer, &greeting, &mut None)?;
+    let session = greeted_session(context, writer, initial.graph, last)?;
     if has_ended {
         return Ok(());
     }
-    let mut conversation = open_conversation(alloc, session, line);
-    conversation.take(context, writer, &buffer[at..end])?;
+    let mut conversation = begun_conversation(context, writer, session, line, &buffer[at..end])?;
     converse(context, reader, writer, buffer, &mut conversation)
 }
 
@@ -106,10 +102,58 @@ fn open_session<H: Threads + Wait + Clock + Sync, G: Gate + Sync>(
     ensures holds { IfOk result (HoldsGraph (content_of graph)) }
     ensures kept { IfOk result AreKept }
 {
-    let threads = context.asked.settings.workers as usize;
-    let mut session = Session::open(context.rt, context.alloc, graph, threads)?;
+    let most = context.asked.settings.workers as usize;
+    let mut session = Session::open(context.rt, context.alloc, graph, most)?;
     session.contract_at_once(context);
     Ok(session)
+}
+
+/// Opens a session, and writes how large its graph is: the answer to a request that asks for nothing, on this line.
+fn greeted_session<H: Threads + Wait + Clock + Sync, W: Write, G: Gate + Sync>(
+    context: &Context<'_, H, G>,
+    writer: &mut W,
+    graph: Job,
+    line: u64,
+) -> Result<Session, Fault>
+    requires limits { IsWithinLimits (content_of graph) }
+    ensures answered { OnOk result (Writes (IsAnswerIn (terms_of context.now.asked.now) (content_of graph) absent line)
+        (W.contents writer.old) (W.contents writer.new)) }
+    ensures cut { OnErr result (WritesPrefix (IsAnswerIn (terms_of context.now.asked.now) (content_of graph) absent line)
+        (W.contents writer.old) (W.contents writer.new)) }
+    ensures holds { IfOk result (HoldsGraph (content_of graph)) }
+    ensures kept { IfOk result AreKept }
+    ensures kinds { IfErr result IsWritingFault }
+{
+    let mut session = open_session(context, graph)?;
+    let greeting = Query {
+        ask: Ask::Absent,
+        line,
+    };
+    session.answer(context, writer, &greeting, &mut None)?;
+    Ok(session)
+}
+
+/// Begins the conversation about a graph, whose next line has this number, and replies to what is complete in these bytes.
+fn begun_conversation<H: Threads + Wait + Clock + Sync, W: Write, G: Gate + Sync>(
+    context: &Context<'_, H, G>,
+    writer: &mut W,
+    session: Session,
+    line: u64,
+    bytes: &[u8],
+) -> Result<Conversation, Fault>
+    requires kept { AreKept session }
+    ensures heard { (graph : Content) → HoldsGraph graph session
+        → IfOk result (λ conversation. HasHeard (terms_of context.now.asked.now) graph line conversation bytes.now
+        (W.contents writer.old) (W.contents writer.new)) }
+    ensures kept { IfOk result IsConsistent }
+    ensures cut { (graph : Content) → HoldsGraph graph session
+        → OnErr result (AreCutAfterBytes (terms_of context.now.asked.now) graph line bytes.now
+        (W.contents writer.old) (W.contents writer.new)) }
+    ensures kinds { IfErr result IsWritingFault }
+{
+    let mut conversation = open_conversation(context.alloc, session, line);
+    conversation.take(context, writer, bytes)?;
+    Ok(conversation)
 }
 
 /// Begins the conversation about a graph. The next line has this number.

@@ -20,12 +20,13 @@ const SIDE: u32 = 40;
 
 const MOST_PAIRS: usize = 150;
 
-/// Each of some sources, with more targets than are searched one by one.
+/// Each of some sources, with more targets than are searched one by one. All but the third have the same.
 fn many_targets(alloc: Global, n: u32) -> Result<Vec<(u32, u32)>, Memory> {
     let mut pairs = Vec::new(alloc);
     for source in 0..4_u32 {
+        let first = if source == 2 { 3 } else { 0 };
         for at in 0..40_u32 {
-            pairs.push((source * 90, (at * 7) % n.max(1)))?;
+            pairs.push((source * 90, (first + at * 7) % n.max(1)))?;
         }
     }
     Ok(pairs)

@@ -9,11 +9,18 @@ ghost use Rattle.least_costs.specs.declared.start.Start.TheVariants.{At};
 use crate::costs::costs_in_order;
 use crate::near::Near;
 use crate::near::budget::SearchLimit;
-use crate::near::room::{fit, labels_above, labels_by};
+use crate::near::room::{fit, labels_above, labels_by, labels_over};
 use crate::network::Network;
 use crate::start::Start;
-use hierarchy::Hierarchy;
+use hierarchy::{Hierarchy, TargetSweep};
 use std::alloc::Global;
+
+/// Targets that all sources share, with the places of a hierarchy above them.
+#[derive(Drop)]
+pub struct SharedTargets<'a> {
+    pub hierarchy: &'a Hierarchy,
+    pub sweep: TargetSweep,
+}
 
 /// A target next door is found by fewer visits than two searches upward make.
 const NEXT_DOOR: SearchLimit = SearchLimit {
@@ -21,8 +28,8 @@ const NEXT_DOOR: SearchLimit = SearchLimit {
     arcs: 512,
 };
 
-/// For more targets a pass over all vertices is made, which is worth a team of its own.
-const MAX_SHORT_TARGETS: usize = 16;
+/// For more targets a pass over many vertices is made, which is worth a team of its own.
+pub(crate) const MAX_SHORT_TARGETS: usize = 16;
 
 impl Near {
     /// The costs of these targets: by a short search if one target is next door, and else by the hierarchy.
@@ -43,6 +50,28 @@ impl Near {
             Some(labels) => Some(labels),
             None => self.labels_above(alloc, network, hierarchy, source, targets),
         };
+        costs_in_order(alloc, network, Start::At(source), targets, &labels?).ok()
+    }
+
+    /// The costs of the targets that sources share.
+    pub(crate) fn costs_over(
+        &mut self,
+        alloc: Global,
+        network: &Network,
+        shared: &SharedTargets<'_>,
+        source: u32,
+    ) -> Option<Vec<Option<u64>>>
+        requires hierarchy { shared.now.hierarchy.now.graph ≡ graph_of network.now }
+        requires sweep { shared.now.sweep.hierarchy ≡ shared.now.hierarchy.now }
+        requires source { source < network.now.n }
+        ensures { IfSome result (λ costs.
+            AreCostsTo network.now (At source) shared.now.sweep.targets costs.items) }
+    {
+        self.was_long = true;
+        self.prepare(alloc, network);
+        let labels = labels_over(&mut self.forward, alloc, network, shared, source);
+        self.count_visits();
+        let targets = shared.sweep.targets();
         costs_in_order(alloc, network, Start::At(source), targets, &labels?).ok()
     }
 

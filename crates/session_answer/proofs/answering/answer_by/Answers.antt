@@ -1,4 +1,4 @@
-use Rattle.std.proofs.Common.{[], take, drop, ◌-◌}
+use Rattle.std.proofs.Common.{take, drop, ◌-◌}
 use Rattle.dimacs_text.specs.Jobs.{content_of}
 use Rattle.std.proofs.lemmas.Result.{IfErr-weaker, err_from_is_err_and, on_err_weaker}
 use Rattle.session_answer.specs.Terms.{terms_of}
@@ -15,25 +15,23 @@ returns-then-has_ended-clause-answered g c =
     let initial = c.in_ok-initial.initial in
     session_ended asked.limit terms initial c.saturating_sub-last.result c.read_initial_graph.new.buffer
     (g.R.Read.remaining c.args.reader.now) (g.R.Read.remaining c.read_initial_graph.new.reader)
-    (g.W.Write.contents c.args.writer.now) (g.W.Write.contents c.answer.new.writer) c.in_ok-initial.ensures.initial
-    c.if-has_ended.true c.saturating_sub-last.ensures (c.in_ok-answer.ensures.answered (content_of initial.graph) c.in_ok-session.ensures.holds)
+    (g.W.Write.contents c.args.writer.now) (g.W.Write.contents c.greeted_session.new.writer) c.in_ok-initial.ensures.initial
+    c.if-has_ended.true c.saturating_sub-last.ensures c.in_ok-session.ensures.answered
 
 pub returns-clause-answered : goal.returns-clause-answered
 returns-clause-answered g c =
     let asked = c.args.context.now.asked.now in
     let terms = terms_of asked in
     let initial = c.in_ok-initial.initial in
-    let written = g.W.Write.contents c.answer.new.writer in
+    let written = g.W.Write.contents c.greeted_session.new.writer in
     session_whole asked.limit terms initial c.saturating_sub-last.result c.read_initial_graph.new.buffer
     (g.R.Read.remaining c.args.reader.now) (g.R.Read.remaining c.read_initial_graph.new.reader)
     (g.R.Read.remaining c.converse.new.reader) (g.W.Write.contents c.args.writer.now) written
     (g.W.Write.contents c.converse.new.writer) c.converse.result c.in_ok-initial.ensures.initial c.if-has_ended.false
-    c.saturating_sub-last.ensures (c.in_ok-answer.ensures.answered (content_of initial.graph) c.in_ok-session.ensures.holds)
+    c.saturating_sub-last.ensures c.in_ok-session.ensures.answered
     (c.converse.ensures.conversed (content_of initial.graph) initial.line (take (initial.end - initial.at) (drop initial.at c.read_initial_graph.new.buffer))
     written
-    (c.in_ok-take.ensures.heard (content_of initial.graph) initial.line [] written
-    (c.open_conversation-conversation.ensures.heard terms (content_of initial.graph) written
-    (c.in_ok-answer.ensures.graph (content_of initial.graph) c.in_ok-session.ensures.holds))))
+    (c.in_ok-conversation.ensures.heard (content_of initial.graph) c.in_ok-session.ensures.holds))
 
 pub returns-in_err-initial-clause-cut : goal.returns-in_err-initial-clause-cut
 returns-in_err-initial-clause-cut g c =
@@ -48,43 +46,32 @@ pub returns-in_err-session-clause-cut : goal.returns-in_err-session-clause-cut
 returns-in_err-session-clause-cut g c =
     let asked = c.args.context.now.asked.now in
     let terms = terms_of asked in
-    on_err
-    (nothing_cut asked.limit terms (g.R.Read.remaining c.args.reader.now)
-    (g.R.Read.remaining c.read_initial_graph.new.reader) (g.W.Write.contents c.args.writer.now)
-    (record { bytes = _; taken = c.in_ok-initial.ensures.initial.taken }))
-    c.from_residual-in_err-session.result
-
-pub returns-in_err-answer-clause-cut : goal.returns-in_err-answer-clause-cut
-returns-in_err-answer-clause-cut g c =
-    let asked = c.args.context.now.asked.now in
-    let terms = terms_of asked in
     let initial = c.in_ok-initial.initial in
     on_err
     (greeting_cut asked.limit terms initial c.saturating_sub-last.result c.read_initial_graph.new.buffer
     (g.R.Read.remaining c.args.reader.now) (g.R.Read.remaining c.read_initial_graph.new.reader)
-    (g.W.Write.contents c.args.writer.now) (g.W.Write.contents c.answer.new.writer) c.in_ok-initial.ensures.initial
-    c.saturating_sub-last.ensures (c.in_err-answer.ensures.cut (content_of initial.graph) c.in_ok-session.ensures.holds))
-    c.from_residual-in_err-answer.result
+    (g.W.Write.contents c.args.writer.now) (g.W.Write.contents c.greeted_session.new.writer) c.in_ok-initial.ensures.initial
+    c.saturating_sub-last.ensures c.in_err-session.ensures.cut)
+    c.from_residual-in_err-session.result
 
-pub returns-in_err-take-clause-cut : goal.returns-in_err-take-clause-cut
-returns-in_err-take-clause-cut g c =
+pub returns-in_err-conversation-clause-cut : goal.returns-in_err-conversation-clause-cut
+returns-in_err-conversation-clause-cut g c =
     let asked = c.args.context.now.asked.now in
     let terms = terms_of asked in
     let initial = c.in_ok-initial.initial in
     let graph = content_of initial.graph in
     let heard = take (initial.end - initial.at) (drop initial.at c.read_initial_graph.new.buffer) in
-    let written = g.W.Write.contents c.answer.new.writer in
+    let written = g.W.Write.contents c.greeted_session.new.writer in
     let taken = g.R.Read.remaining c.read_initial_graph.new.reader in
     on_err
     (session_cut c.answer_texts_by_lines_are_unique.ensures asked.limit terms
     initial c.saturating_sub-last.result c.read_initial_graph.new.buffer (g.R.Read.remaining c.args.reader.now) taken taken
-    (g.W.Write.contents c.args.writer.now) written (g.W.Write.contents c.take.new.writer) c.in_ok-initial.ensures.initial
-    c.if-has_ended.false c.saturating_sub-last.ensures (c.in_ok-answer.ensures.answered graph c.in_ok-session.ensures.holds)
+    (g.W.Write.contents c.args.writer.now) written (g.W.Write.contents c.begun_conversation.new.writer) c.in_ok-initial.ensures.initial
+    c.if-has_ended.false c.saturating_sub-last.ensures c.in_ok-session.ensures.answered
     (first_heard_cut terms graph initial.line heard taken written
-    (g.W.Write.contents c.take.new.writer)
-    (c.in_err-take.ensures.cut graph initial.line [] written (c.open_conversation-conversation.ensures.heard terms (content_of initial.graph) written
-    (c.in_ok-answer.ensures.graph (content_of initial.graph) c.in_ok-session.ensures.holds)))))
-    c.from_residual-in_err-take.result
+    (g.W.Write.contents c.begun_conversation.new.writer)
+    (c.in_err-conversation.ensures.cut graph c.in_ok-session.ensures.holds)))
+    c.from_residual-in_err-conversation.result
 
 pub returns-clause-cut : goal.returns-clause-cut
 returns-clause-cut g c =
@@ -93,36 +80,35 @@ returns-clause-cut g c =
     let initial = c.in_ok-initial.initial in
     let graph = content_of initial.graph in
     let heard = take (initial.end - initial.at) (drop initial.at c.read_initial_graph.new.buffer) in
-    let written = g.W.Write.contents c.answer.new.writer in
+    let written = g.W.Write.contents c.greeted_session.new.writer in
     on_err_weaker c.converse.result
     (λ cut.
     session_cut c.answer_texts_by_lines_are_unique.ensures asked.limit terms
     initial c.saturating_sub-last.result c.read_initial_graph.new.buffer (g.R.Read.remaining c.args.reader.now) (g.R.Read.remaining c.read_initial_graph.new.reader)
     (g.R.Read.remaining c.converse.new.reader) (g.W.Write.contents c.args.writer.now) written
     (g.W.Write.contents c.converse.new.writer) c.in_ok-initial.ensures.initial c.if-has_ended.false
-    c.saturating_sub-last.ensures (c.in_ok-answer.ensures.answered graph c.in_ok-session.ensures.holds) cut)
+    c.saturating_sub-last.ensures c.in_ok-session.ensures.answered cut)
     (c.converse.ensures.cut graph initial.line heard written
-    (c.in_ok-take.ensures.heard graph initial.line [] written (c.open_conversation-conversation.ensures.heard terms (content_of initial.graph) written
-    (c.in_ok-answer.ensures.graph (content_of initial.graph) c.in_ok-session.ensures.holds))))
+    (c.in_ok-conversation.ensures.heard (content_of initial.graph) c.in_ok-session.ensures.holds))
 
 pub returns-in_err-initial-clause-says : goal.returns-in_err-initial-clause-says
 returns-in_err-initial-clause-says g c =
     let p = err_from_is_err_and c.from_residual.result c.from_residual.ensures.1 in
     rw (p.1, p.2) c.in_err-initial.ensures.says
 
-pub returns-in_err-answer-clause-says : goal.returns-in_err-answer-clause-says
-returns-in_err-answer-clause-says g c =
-    let p = err_from_is_err_and c.from_residual-in_err-answer.result c.from_residual-in_err-answer.ensures.1 in
+pub returns-in_err-session-clause-says : goal.returns-in_err-session-clause-says
+returns-in_err-session-clause-says g c =
+    let p = err_from_is_err_and c.from_residual-in_err-session.result c.from_residual-in_err-session.ensures.1 in
     rw (p.1, p.2)
     (writing_ends c.args.context.now.asked.now.limit (g.R.Read.remaining c.args.reader.now)
-    (g.R.Read.remaining c.read_initial_graph.new.reader) c.in_err-answer.field-0.0 c.in_err-answer.ensures.kinds)
+    (g.R.Read.remaining c.read_initial_graph.new.reader) c.in_err-session.field-0.0 c.in_err-session.ensures.kinds)
 
-pub returns-in_err-take-clause-says : goal.returns-in_err-take-clause-says
-returns-in_err-take-clause-says g c =
-    let p = err_from_is_err_and c.from_residual-in_err-take.result c.from_residual-in_err-take.ensures.1 in
+pub returns-in_err-conversation-clause-says : goal.returns-in_err-conversation-clause-says
+returns-in_err-conversation-clause-says g c =
+    let p = err_from_is_err_and c.from_residual-in_err-conversation.result c.from_residual-in_err-conversation.ensures.1 in
     rw (p.1, p.2)
     (writing_ends c.args.context.now.asked.now.limit (g.R.Read.remaining c.args.reader.now)
-    (g.R.Read.remaining c.read_initial_graph.new.reader) c.in_err-take.field-0.0 c.in_err-take.ensures.kinds)
+    (g.R.Read.remaining c.read_initial_graph.new.reader) c.in_err-conversation.field-0.0 c.in_err-conversation.ensures.kinds)
 
 pub returns-clause-says : goal.returns-clause-says
 returns-clause-says g c =
@@ -131,12 +117,11 @@ returns-clause-says g c =
     let initial = c.in_ok-initial.initial in
     let graph = content_of initial.graph in
     let heard = take (initial.end - initial.at) (drop initial.at c.read_initial_graph.new.buffer) in
-    let written = g.W.Write.contents c.answer.new.writer in
+    let written = g.W.Write.contents c.greeted_session.new.writer in
     IfErr-weaker c.converse.result _ _
     (λ fault says.
     after_graph_ends asked.limit initial c.read_initial_graph.new.buffer (g.R.Read.remaining c.args.reader.now)
     (g.R.Read.remaining c.read_initial_graph.new.reader) (g.R.Read.remaining c.converse.new.reader) fault c.requires.limit
     c.in_ok-initial.ensures.initial c.if-has_ended.false says)
     (c.converse.ensures.says graph initial.line heard written
-    (c.in_ok-take.ensures.heard graph initial.line [] written (c.open_conversation-conversation.ensures.heard terms (content_of initial.graph) written
-    (c.in_ok-answer.ensures.graph (content_of initial.graph) c.in_ok-session.ensures.holds))))
+    (c.in_ok-conversation.ensures.heard (content_of initial.graph) c.in_ok-session.ensures.holds))

@@ -1,7 +1,7 @@
 use Rattle.std.proofs.Common.{◌≡◌, ◌+◌, ℕ, List, length}
 use Rattle.least_costs.specs.Network.{NetworkSeen}
 use Rattle.least_costs.specs.Pairs.{AreCostsAt, AreFilled}
-use Rattle.least_costs.proofs.pairs.fill.Given as goal
+use Rattle.least_costs.proofs.pairs.order.fill.Given as goal
 
 abbrev pub invariant-loop-at : goal.invariant-loop-at
 invariant-loop-at l = record {

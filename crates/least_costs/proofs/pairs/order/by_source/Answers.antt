@@ -5,7 +5,7 @@ use Rattle.std.specs.declared.cmp.Ordering.TheVariants.{Less, Equal, Greater}
 use Rattle.std.proofs.lemmas.Map.Keys.{ge_from_not_lt}
 use Rattle.least_costs.specs.Pairs.{pair_at}
 use Rattle.least_costs.proofs.Filling.{placed_more, all_placed}
-use Rattle.least_costs.proofs.pairs.by_source.Goals as goal
+use Rattle.least_costs.proofs.pairs.order.by_source.Goals as goal
 
 pub loop-place-preserved : goal.loop-place-preserved
 loop-place-preserved c =

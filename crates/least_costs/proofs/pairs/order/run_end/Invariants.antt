@@ -1,6 +1,6 @@
 use Rattle.std.proofs.Common.{◌≡◌, ◌-◌, ◌<◌, ◌≤◌, ℕ, length}
 use Rattle.least_costs.specs.Pairs.{pair_at}
-use Rattle.least_costs.proofs.pairs.run_end.Given as goal
+use Rattle.least_costs.proofs.pairs.order.run_end.Given as goal
 
 abbrev pub invariant-loop-end : goal.invariant-loop-end
 invariant-loop-end l = record {

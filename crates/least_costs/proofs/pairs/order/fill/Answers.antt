@@ -2,7 +2,7 @@ use Rattle.std.proofs.Common.{◌≡◌, ◌∙◌, ◌+◌, ◌<◌, None, arit
 use Rattle.std.proofs.lemmas.List.{length-set}
 use Rattle.least_costs.specs.Pairs.{AreFilled, pair_at}
 use Rattle.least_costs.proofs.Filling.{filled_more}
-use Rattle.least_costs.proofs.pairs.fill.Goals as goal
+use Rattle.least_costs.proofs.pairs.order.fill.Goals as goal
 
 pub loop-at-preserved : goal.loop-at-preserved
 loop-at-preserved c =
