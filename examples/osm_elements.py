@@ -66,9 +66,10 @@ class Collector:
             self.hand_over()
 
     def add_nodes(self, nodes, latitudes, longitudes):
-        """Takes many nodes at once."""
-        if nodes and (max(map(abs, latitudes)) > 90 or max(map(abs, longitudes)) > 180):
-            raise ValueError("a node is not on the earth")
+        """Takes many nodes at once, as arrays."""
+        for numbers, most in ((latitudes, 90), (longitudes, 180)):
+            if numbers and not -most <= min(numbers) <= max(numbers) <= most:
+                raise ValueError("a node is not on the earth")
         own = self.elements
         own.nodes.extend(nodes)
         own.latitudes.extend(latitudes)

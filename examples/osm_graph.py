@@ -2,12 +2,13 @@
 
 import math
 from array import array
-from bisect import bisect_left, bisect_right
+from bisect import bisect_left
 from collections import namedtuple
-from itertools import accumulate, chain, compress, count, repeat
+from itertools import accumulate, chain, count, repeat
 from math import asin, cos, radians, sin, sqrt
-from operator import and_
+from operator import and_, mul
 
+from osm_arcs import RoadArcs
 from osm_parts import largest_part
 from osm_turns import Rules, Turns
 from processes import in_shares, in_turn
@@ -21,7 +22,7 @@ Text = namedtuple("Text", "many make rest")
 
 
 def encoded(texts):
-    """The bytes of these texts, each piece by piece. They have to be gone through in order."""
+    """The bytes of these texts, each piece by piece. They are begun at once, and have to be gone through in order."""
 
     def job(text):
         return text.many, lambda first, last: text.make(first, last).encode("utf-8", "surrogateescape"), LINES
@@ -43,16 +44,14 @@ class Spots:
     def __init__(self, latitudes, longitudes):
         self.latitudes, self.longitudes = latitudes, longitudes
 
-    def pieces(self, nodes):
-        """The lengths between neighbours of a list of nodes that differ and are known, as (metres, node, node)."""
+    def lengths(self, nodes):
+        """The metres from each of these nodes to the next one, nan if one of both is not known."""
         latitudes = [*map(radians, map(self.latitudes.__getitem__, nodes))]
-        longitudes = map(radians, map(self.longitudes.__getitem__, nodes))
-        places = [*zip(nodes, latitudes, longitudes, map(cos, latitudes))]
+        places = [*zip(latitudes, map(radians, map(self.longitudes.__getitem__, nodes)), map(cos, latitudes))]
         return [
-            (2 * EARTH * asin(sqrt(min(h, 1))), one, other)
-            for (one, lat1, lon1, cos1), (other, lat2, lon2, cos2) in zip(places, places[1:])
+            2 * EARTH * asin(sqrt(1 if h > 1 else h))
+            for (lat1, lon1, cos1), (lat2, lon2, cos2) in zip(places, places[1:])
             for h in (sin((lat2 - lat1) / 2) ** 2 + cos1 * cos2 * sin((lon2 - lon1) / 2) ** 2,)
-            if one != other and h == h  # which is no nan
         ]
 
 
@@ -69,6 +68,7 @@ class Arcs:
         self.roads, self.tails, self.heads, self.weights = array("I"), array("I"), array("I"), array("Q")
         # Of a joined graph the nodes between the ends of each arc, and how many these are.
         self.inner, self.inner_counts = array("I"), array("I")
+        self.counts = array("I")  # of each road the number of its arcs
 
     def add(self, number, road, one, other, weight, inner):
         """Adds the arcs of a road between two nodes, with the nodes between."""
@@ -160,19 +160,24 @@ class Graph:
         self.begins = array("Q", accumulate((road.size for road in found.roads), initial=0))
         self.kept = kept_nodes(found, self.latitudes) if is_joined else None
         self.arcs = Arcs()
-        self.add_arcs()
-        # Where the inner nodes of each arc begin in their list; the last number is behind the last.
+        road_arcs = RoadArcs(self)
+        shares = self.arc_shares()
+        if found.restrictions or found.closed:
+            road_arcs.find_stands()  # as other processes make the arcs
+        for arcs in shares:
+            self.arcs.take(arcs)
+        # So too the arcs of each road, and the inner nodes of each arc.
+        self.arcs_at = array("Q", accumulate(self.arcs.counts, initial=0))
         self.inner_at = array("Q", accumulate(self.arcs.inner_counts, initial=0))
-        self.vertices = array("I", [0]) * len(self.latitudes)  # by the numbers of nodes; 0 where no arc joins one
+        has_arcs = bytearray(len(self.latitudes))
         for node in chain(self.arcs.tails, self.arcs.heads):
-            self.vertices[node] = 1
-        count = 0
-        for node, is_joined in enumerate(self.vertices):
-            if is_joined:
-                count += 1
-                self.vertices[node] = count
-        self.turns = Turns(self.vertices, count)
-        self.turns.settle(self.rules(price), found, RoadArcs(self))
+            has_arcs[node] = 1
+        # By the numbers of nodes; 0 where no arc joins one.
+        self.vertices = array("I", map(mul, accumulate(has_arcs), has_arcs))
+        self.own_count = sum(has_arcs)
+        self.added_at = len(self.vertices) - self.own_count - 1  # what `all_ends` adds to added vertices
+        self.turns = Turns(self.vertices, self.own_count)
+        self.turns.settle(self.rules(price), found, road_arcs)
         self.many = len(self.arcs.tails) + self.turns.many()
         self.split = sorted(self.turns.tails)  # the arcs that stand in the graph more than once
         self.bent = sorted(self.turns.heads)  # those that end beside the vertex of their node
@@ -198,21 +203,25 @@ class Graph:
                     self.found.roads[number] = road._replace(speed=metres / road.seconds * 3.6)
             at += road.size
 
-    def add_arcs(self):
-        """Adds the arcs of each road from node to node whose places are known."""
-        roads, spots, begins = self.found.roads, Spots(self.latitudes, self.longitudes), self.begins
+    def arc_shares(self):
+        """The arcs of all roads from node to node whose places are known, in shares."""
+        spots, begins = Spots(self.latitudes, self.longitudes), self.begins
 
         def arcs_of(first, last):
-            found = Arcs()
+            found, own = Arcs(), self.found.refs[begins[first] : begins[last]]
+            # Between roads, too, which is left out.
+            lengths, at = spots.lengths(own), 0
             for number in range(first, last):
-                self.add_road(found, number, spots.pieces(self.found.refs[begins[number] : begins[number + 1]]))
+                end = at + self.found.roads[number].size
+                pieces = zip(lengths[at:end], own[at:end], own[at + 1 : end])
+                self.add_road(found, number, [each for each in pieces if each[1] != each[2] and each[0] == each[0]])
+                at = end
             return found
 
-        for arcs in in_shares(len(roads), arcs_of, ROADS):
-            self.arcs.take(arcs)
+        return in_shares(len(self.found.roads), arcs_of, ROADS)
 
     def add_road(self, arcs, number, pieces):
-        """Adds the arcs of a road to others."""
+        """Adds the arcs of a road to others, of pieces between neighbours that differ, as (metres, node, node)."""
         road = self.found.roads[number]
         scale, is_time = UNITS[self.unit]
         pace = road.speed / 3.6 if is_time else 1
@@ -220,10 +229,12 @@ class Graph:
             round(exact * scale * road.factor / pace) or int(self.place(one) != self.place(other))
             for exact, one, other in pieces
         ]
+        many = len(arcs.tails)
         if self.kept:
             self.add_joined(arcs, number, pieces, weights)
         else:
             arcs.add_pieces(number, road, [one for _, one, _ in pieces], [other for _, _, other in pieces], weights)
+        arcs.counts.append(len(arcs.tails) - many)
 
     def add_joined(self, arcs, number, pieces, weights):
         """Adds the arcs of a road between nodes that are kept."""
@@ -244,129 +255,104 @@ class Graph:
             ends[number - first] = self.turns.heads[number]
         return begins, ends
 
-    def all_ends(self):
-        """Where all arcs of the graph begin and end."""
-        begins, ends = self.arc_ends(0, len(self.arcs.tails))
-        for tail, _, head in chain.from_iterable(self.turns.tails.values()):
-            begins.append(tail)
-            ends.append(head)
-        for tail, head in self.turns.closing:
-            begins.append(tail)
-            ends.append(head)
-        return begins, ends
-
-    def arc_text(self, text_of, text_of_more, rest):
+    def arc_text(self, lines_of, more, rest):
         """The text of all arcs of roads, and behind an arc that of the arcs made of it.
 
-        `text_of` gives the lines of the arcs from a first to one behind the last, and `text_of_more` those behind one.
+        `lines_of` gives the lines of the arcs from a first to one behind the last, and `more` those behind an arc, by
+        its number and its line.
         """
 
         def text(first, last):
-            found, at = [], first
+            lines = lines_of(first, last)
             for number in self.split[bisect_left(self.split, first) : bisect_left(self.split, last)]:
-                found += text_of(at, number + 1), text_of_more(number)
-                at = number + 1
-            return "".join((*found, text_of(at, last)))
+                lines[number - first] += more(number, lines[number - first])
+            return "".join(lines)
 
         return Text(len(self.arcs.tails), text, rest)
 
     def line_text(self):
         """Of each arc the latitudes and longitudes of the nodes between its ends."""
 
-        def text(first, last):
+        def lines_of(first, last):
             lines = []
             for begin, end in zip(self.inner_at[first:last], self.inner_at[first + 1 : last + 1]):
                 inner = self.arcs.inner[begin:end]
                 lines.append(" ".join([f"{self.latitudes[i]} {self.longitudes[i]}" for i in inner]) + "\n")
-            return "".join(lines)
+            return lines
 
-        more = lambda number: text(number, number + 1) * len(self.turns.tails[number])
-        return self.arc_text(text, more, "\n" * len(self.turns.closing))
+        return self.arc_text(lines_of, self.again, "\n" * len(self.turns.closing))
+
+    def again(self, number, line):
+        """The line of an arc, for each arc made of it."""
+        return line * len(self.turns.tails[number])
 
     def text(self):
-        weights, more = self.arcs.weights, self.turns.tails
+        weights, turns = self.arcs.weights, self.turns
 
-        def text(first, last):
+        def lines_of(first, last):
             columns = zip(*self.arc_ends(first, last), weights[first:last])
-            return "".join([f"a {tail} {head} {weight}\n" for tail, head, weight in columns])
+            return [f"a {tail} {head} {weight}\n" for tail, head, weight in columns]
 
-        def text_of_more(number):
-            return "".join(f"a {tail} {end} {weights[number] + cost}\n" for tail, cost, end in more[number])
+        def more(number, _):
+            return "".join(f"a {tail} {end} {weights[number] + cost}\n" for tail, cost, end in turns.tails[number])
 
-        return self.arc_text(text, text_of_more, "".join(f"a {tail} {head} 0\n" for tail, head in self.turns.closing))
+        return self.arc_text(lines_of, more, "".join(f"a {tail} {head} 0\n" for tail, head in turns.closing))
 
     def way_text(self):
         texts, roads = [f"{road.way}\t{road.name}\n" for road in self.found.roads], self.arcs.roads
 
-        def text(first, last):
-            return "".join(map(texts.__getitem__, roads[first:last]))
+        def lines_of(first, last):
+            return [*map(texts.__getitem__, roads[first:last])]
 
-        more = lambda number: texts[roads[number]] * len(self.turns.tails[number])
-        return self.arc_text(text, more, "0\t\n" * len(self.turns.closing))
+        return self.arc_text(lines_of, self.again, "0\t\n" * len(self.turns.closing))
+
+    def node_columns(self):
+        """The numbers of all nodes in the map, their latitudes and longitudes, and their vertices."""
+        return array("q", self.found.numbers), self.latitudes, self.longitudes, self.vertices
 
     def node_text(self):
-        nodes = array("q", self.found.numbers)
-
-        def line(i):
-            return f"{nodes[i]} {self.latitudes[i]} {self.longitudes[i]}\n"
+        nodes, latitudes, longitudes, _ = columns = self.node_columns()
 
         def text(first, last):
-            return "".join([line(i) for i in range(first, last) if self.vertices[i]])
+            parts = zip(*(column[first:last] for column in columns))
+            return "".join([f"{node} {north} {east}\n" for node, north, east, vertex in parts if vertex])
 
-        return Text(len(nodes), text, "".join(map(line, self.turns.nodes)))
+        rest = [f"{nodes[i]} {latitudes[i]} {longitudes[i]}\n" for i in self.turns.nodes]
+        return Text(len(nodes), text, "".join(rest))
+
+    def all_ends(self):
+        """Where all arcs of the graph begin and end, by the numbers of nodes, behind which added vertices follow."""
+        turns, tails, heads, vertices = self.turns, self.arcs.tails[:], self.arcs.heads[:], self.vertices
+        for number, head in turns.heads.items():
+            heads[number] = head + self.added_at
+        for number, more in turns.tails.items():
+            node = self.arcs.heads[number]
+            tails.extend([begin + self.added_at for begin, _, _ in more])
+            heads.extend([node if end == vertices[node] else end + self.added_at for _, _, end in more])
+        for begin, end in turns.closing:
+            node = turns.nodes[end - self.own_count - 1]
+            tails.append(node if begin == vertices[node] else begin + self.added_at)
+            heads.append(end + self.added_at)
+        return tails, heads
 
     def joined(self):
         """Of each node, by its number, whether a route leads from it to the largest part, and one back."""
-        leads_there, is_reached = largest_part(self.turns.count, self.all_ends)
-        found = bytearray(map(and_, *(map(each.__getitem__, self.vertices) for each in (leads_there, is_reached))))
+        count = len(self.vertices)
+        leads_there, is_reached = largest_part(count + len(self.turns.nodes), self.all_ends)
+        found = bytearray(map(and_, leads_there[:count], is_reached[:count]))
         for node, end in self.turns.ends.items():
-            found[node] = leads_there[self.vertices[node]] & is_reached[end]
+            found[node] = leads_there[node] & is_reached[end + self.added_at]
         return found
 
     def place_text(self, joined):
-        nodes, ends = array("q", self.found.numbers), self.turns.ends
-
-        def line(i, start):
-            end, word = ends.get(i, start), "yes" if joined[i] else "no"
-            return f"{nodes[i]} {self.latitudes[i]} {self.longitudes[i]} {start} {end} {word}\n"
+        columns, ends = self.node_columns(), self.turns.ends
 
         def text(first, last):
-            return "".join([line(i, self.vertices[i]) for i in range(first, last) if self.vertices[i]])
+            parts = [column[first:last] for column in columns]
+            return "".join([
+                f"{node} {latitude} {longitude} {start} {ends.get(i, start)} {'yes' if joined[i] else 'no'}\n"
+                for i, node, latitude, longitude, start in zip(count(first), *parts)
+                if start
+            ])
 
-        return Text(len(nodes), text, "")
-
-
-class RoadArcs:
-    """The arcs of the roads of a graph, for what keeps its turns."""
-
-    def __init__(self, graph):
-        self.graph, self.tails, self.heads = graph, graph.arcs.tails, graph.arcs.heads
-
-    def arc(self, number):
-        """The way of an arc, its nodes, and the nodes that are next to these on it."""
-        graph, tail, head = self.graph, self.tails[number], self.heads[number]
-        after, before = head, tail
-        first, last = graph.inner_at[number : number + 2] if graph.kept else (0, 0)
-        if first < last:
-            after, before = graph.arcs.inner[first], graph.arcs.inner[last - 1]
-        return graph.found.roads[graph.arcs.roads[number]].way, tail, head, after, before
-
-    def along(self, road, node):
-        """The numbers of the arcs of a road from one of its ends to the other, in order; none if nobody may go so."""
-        numbers, own = self.graph.arcs.roads, self.graph.found.roads[road]
-        arcs = range(bisect_left(numbers, road), bisect_left(numbers, road + 1))
-        if own.forward and own.back:
-            return arcs[::2] if arcs and self.tails[arcs[0]] == node else arcs[1::2][::-1]
-        return arcs if own.forward else arcs[::-1]
-
-    def at(self, nodes):
-        """The numbers of the arcs that begin or end at some nodes, in order."""
-        is_wanted = bytearray(len(self.graph.vertices))
-        for node in nodes:
-            is_wanted[node] = 1
-        named = compress(count(), map(is_wanted.__getitem__, self.graph.found.refs))
-        numbers = self.graph.arcs.roads
-        for road in dict.fromkeys(bisect_right(self.graph.begins, at) - 1 for at in named):
-            for number in range(bisect_left(numbers, road), bisect_left(numbers, road + 1)):
-                if is_wanted[self.tails[number]] or is_wanted[self.heads[number]]:
-                    yield number
+        return Text(len(self.vertices), text, "")

@@ -7,6 +7,8 @@ A line that is not understood is refused, with its number.
 import os
 import re
 from collections import Counter, namedtuple
+from functools import cached_property
+from itertools import chain
 
 from to_gr import Refused
 
@@ -94,8 +96,9 @@ class Profile:
         self.sizes, self.closed, self.opened = {}, set(), set()
         self.ferry, self.ferry_wants_leave = None, False
         self.vehicles, self.turn_costs = [], []
+        self.kinds = {}  # of roads, by the tags that count
         # What is not understood of a map.
-        self.speeds_not_read, self.others_not_read = Counter(), Counter()
+        self.speeds_not_read, self.others_not_read, self.is_read = Counter(), Counter(), True
 
     # Lines of the file.
 
@@ -157,12 +160,35 @@ class Profile:
             if key in tags:
                 most = size_of(tags[key])
                 if most is None:
-                    self.others_not_read[f"{key}={tags[key]}"] += 1
+                    self.count(self.others_not_read, f"{key}={tags[key]}")
                 elif most < own:
                     raise LeftOut(f"{key}={tags[key]}")
 
     def road(self, tags):
         """What a way is as a road; LeftOut says why it is none."""
+        own = tuple(map(tags.get, self.road_keys))
+        kind = self.kinds.get(own)
+        if not kind:
+            self.is_read = True
+            kind = self.kind(tags)
+            # Ways with the same tags are roads of the same kind. What is not read is counted each time.
+            if self.is_read:
+                self.kinds[own] = kind
+        return kind
+
+    @cached_property
+    def road_keys(self):
+        """The tags of a way that count."""
+        pairs = chain(self.refused, self.implied, self.against)
+        single = ("highway", "route", "duration", *self.access, *self.sizes, *self.oneway, *self.speed_keys)
+        return [*dict.fromkeys((*single, *(key for key, _ in pairs)))]
+
+    def count(self, not_read, what):
+        """Counts what is not understood."""
+        not_read[what] += 1
+        self.is_read = False
+
+    def kind(self, tags):
         key = self.deciding_key(tags)
         if key and tags[key] not in self.allowed:
             raise LeftOut(f"{key}={tags[key]}")
@@ -187,7 +213,7 @@ class Profile:
     def duration(self, tags):
         seconds = seconds_of(tags["duration"]) if "duration" in tags else None
         if "duration" in tags and not seconds:
-            self.others_not_read[f"duration={tags['duration']}"] += 1
+            self.count(self.others_not_read, f"duration={tags['duration']}")
         return seconds
 
     def directions(self, tags):
@@ -210,7 +236,7 @@ class Profile:
         found = MAXSPEED.fullmatch(text)
         limit = float(found[1]) * KMH[found[2]] if found else self.limit_of(text)
         if not 1 <= limit <= 200:
-            self.speeds_not_read[text] += 1
+            self.count(self.speeds_not_read, text)
             return speed
         return min(limit, self.fastest)
 
@@ -231,7 +257,7 @@ class Profile:
             return tags[key] not in self.allowed
         kind = tags["barrier"]
         if kind not in self.closed and kind not in self.opened:
-            self.others_not_read[f"barrier={kind}"] += 1
+            self.count(self.others_not_read, f"barrier={kind}")
         return kind in self.closed
 
     def node_keys(self):

@@ -6,6 +6,7 @@ then a parser reads the piece. A parser takes all that it knows, and finds the s
 """
 
 import re
+from array import array
 from operator import itemgetter
 
 BLANK = r"[ \t\n]*"
@@ -30,21 +31,18 @@ ORDERS = [
 TAGS = rf'((?:{BLANK}<tag k="{VALUE}" v="{VALUE}" ?/>)*)'
 
 
-def form(before, after):
-    """The elements of a map, and what is none of them in the last group."""
+def forms(before, after):
+    """What finds nodes, and what finds elements of each kind; the last group is what is none of them."""
     more = optional(before) + optional(after)
     place = rf'{optional(before)} lat="({DEGREES})" lon="({DEGREES})"{optional(after)}'
     node = rf'<node id="({NUMBER})"{place} ?(?:/>|>{TAGS}{BLANK}</node>)'
     way = rf'<way id="({NUMBER})"{more}>((?:{BLANK}<nd ref="{NUMBER}" ?/>)*){TAGS}{BLANK}</way>'
     member = rf'<member type="(?:node|way|relation)" ref="{NUMBER}" role="{VALUE}" ?/>'
     relation = rf'<relation id="{NUMBER}"{more}>((?:{BLANK}{member})*){TAGS}{BLANK}</relation>'
-    return re.compile(rf"(?:{node}|{way}|{relation}){BLANK}|(.)", re.DOTALL)
+    return [re.compile(rf"(?:{each}){BLANK}|(.)", re.DOTALL) for each in (node, f"{node}|{way}|{relation}")]
 
 
-FORMS = [form(*order) for order in ORDERS]
-TAG = re.compile(rf'k="({VALUE})" v="({VALUE})"')
-REF = re.compile(rf'"({NUMBER})"')
-MEMBER = re.compile(rf'type="([a-z]*)" ref="({NUMBER})" role="({VALUE})"')
+FORMS = [forms(*order) for order in ORDERS]
 # The text before the first element of the first level.
 HEAD = re.compile(
     rf"""(?:<\?xml[ ]version=(?:"1\.0"|'1\.0')(?:[ ]encoding=(?:"UTF-8"|'UTF-8'|"utf-8"|'utf-8'))?[ ]?\?>)?{BLANK}
@@ -70,17 +68,48 @@ def unescaped(text):
 
 
 def tags_of(text):
-    return {unescaped(key): unescaped(value).strip() for key, value in TAG.findall(text)}
+    words = text.split('"')
+    keys, values = words[1::4], words[3::4]
+    if "&" in text:
+        keys, values = map(unescaped, keys), map(unescaped, values)
+    return dict(zip(keys, map(str.strip, values)))
+
+
+def refs_of(text):
+    return [*map(int, text.split('"')[1::2])]
+
+
+def members_of(text):
+    words = text.split('"')
+    return [*zip(words[1::6], map(int, words[3::6]), map(unescaped, words[5::6]))]
+
+
+def found_by(known, text):
+    """The groups of the elements of a text; None if it has anything else."""
+    first = known.match(text)
+    if first and first.lastindex == known.groups:
+        return None
+    found = known.findall(text)
+    return None if any(map(itemgetter(-1), found)) else found
 
 
 def elements_of(text):
-    """The elements of a piece, as groups of `form`; None if it has anything else."""
-    for known in FORMS:
-        first = known.match(text)
-        if first and first.lastindex != known.groups:
-            found = known.findall(text)
-            return None if any(map(itemgetter(-1), found)) else found
+    """The nodes of a piece up to the first other element, and the elements from there on; None if it has others."""
+    at = min((at for at in map(text.find, ("<way ", "<relation ")) if at >= 0), default=len(text))
+    for node, element in FORMS:
+        nodes = found_by(node, text[:at])
+        others = None if nodes is None else found_by(element, text[at:])
+        if others is not None:
+            return nodes, others
     return None
+
+
+def add_nodes(nodes, collector):
+    """Gives nodes to a collector, whose first groups are the number and the place."""
+    numbers, latitudes, longitudes = (map(itemgetter(at), nodes) for at in range(3))
+    collector.add_nodes(
+        array("q", map(int, numbers)), array("d", map(float, latitudes)), array("d", map(float, longitudes))
+    )
 
 
 def scan(text, collector):
@@ -88,14 +117,17 @@ def scan(text, collector):
     found = elements_of(text.lstrip(" \t\n"))
     if found is None:
         return False
-    nodes = [element for element in found if element[0]]
-    collector.add_nodes(*([*map(take, map(itemgetter(at), nodes))] for at, take in enumerate((int, float, float))))
-    for node, _, _, node_tags, way, refs, tags, members, relation_tags, _ in found:
-        if node_tags and "barrier" in node_tags:
+    nodes, others = found
+    add_nodes(nodes, collector)
+    add_nodes([element for element in others if element[0]], collector)
+    for node, _, _, tags, _ in nodes:
+        if "barrier" in tags:
+            collector.add_barrier(int(node), tags_of(tags))
+    for node, _, _, node_tags, way, refs, tags, members, relation_tags, _ in others:
+        if "barrier" in node_tags:
             collector.add_barrier(int(node), tags_of(node_tags))
         elif way and ('"highway"' in tags or "ferry" in tags):
-            collector.add_way(int(way), [*map(int, REF.findall(refs))], tags_of(tags))
+            collector.add_way(int(way), refs_of(refs), tags_of(tags))
         elif "restriction" in relation_tags:
-            own = [(kind, int(ref), unescaped(role)) for kind, ref, role in MEMBER.findall(members)]
-            collector.add_relation(tags_of(relation_tags), own)
+            collector.add_relation(tags_of(relation_tags), members_of(members))
     return True

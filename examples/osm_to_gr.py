@@ -36,6 +36,7 @@ with a line that is not understood. Then the status is 1, and no file is written
 """
 
 import argparse
+import gc
 import lzma
 import math
 import os
@@ -271,22 +272,28 @@ def convert():
     if not graph.many:
         cure = ": in Overpass ask for (._;>;)" if graph.lacking else ""
         raise Refused(f"{name}: no road of profile {options.profile.name} whose nodes are in the map{cure}")
-    beside = [(options.nodes, graph.node_text())]
+    write(graph, options)
+
+
+def write(graph, options):
+    """Writes a graph and the files beside it."""
+    beside, comments = [(options.nodes, graph.node_text())], [f"unit {options.weight}"]
     if options.ways:
         beside.append((options.ways, graph.way_text()))
-    if options.places:
-        joined = graph.joined()
-        places = len(graph.vertices) - graph.vertices.count(0)
-        say(f"places that are joined to the largest part: {sum(joined)} of {places}")
-        beside.append((options.places, graph.place_text(joined)))
-    comments = [f"unit {options.weight}"]
     if options.join:
         beside.append((options.lines, graph.line_text()))
         comments.append("joined")
     names, texts = zip(*beside)
     *others, arcs = encoded([*texts, graph.text()])
-    write_graph(graph.turns.count, graph.many, arcs, zip(names, others), comments, None)
+    beside = [*zip(names, others)]
+    if options.places:
+        # The other texts are made meanwhile.
+        joined = graph.joined()
+        say(f"places that are joined to the largest part: {sum(joined)} of {sum(map(bool, graph.vertices))}")
+        beside += zip([options.places], encoded([graph.place_text(joined)]))
+    write_graph(graph.turns.count, graph.many, arcs, beside, comments, None)
 
 
 if __name__ == "__main__":
+    gc.disable()  # looking for cycles takes time, and there are none to speak of
     run("osm_to_gr.py", convert)

@@ -13,12 +13,10 @@ of more than two arms.
 """
 
 import math
-from array import array
 from collections import Counter, namedtuple
-from itertools import chain, compress, cycle
 
+from osm_arcs import Crossing
 from osm_via_ways import Trail, Trails, chain_of, path_of
-from processes import in_shares, processor_count
 
 NO = {"no_left_turn", "no_right_turn", "no_straight_on", "no_u_turn", "no_entry", "no_exit"}
 ONLY = {"only_left_turn", "only_right_turn", "only_straight_on", "only_u_turn"}
@@ -142,76 +140,6 @@ def settle_ways(restrictions, found, road_arcs):
     restrictions.keep(on_roads)
 
 
-# An arc at a node: its number among those of the roads, its way, the node at its other end, and the next one on it.
-Arm = namedtuple("Arm", "number way node near")
-
-# What a node of two arms lets through, by its first neighbour and its second: a part of a mask.
-FROM_FIRST, TO_FIRST, FROM_SECOND, TO_SECOND, MORE = 1, 2, 4, 8, 16
-BOTH_WAYS = FROM_FIRST | TO_FIRST | FROM_SECOND | TO_SECOND
-OPEN_FROM_FIRST = FROM_FIRST | TO_FIRST | TO_SECOND
-OPEN_FROM_SECOND = FROM_SECOND | TO_FIRST | TO_SECOND
-PARTS = FROM_FIRST, TO_FIRST  # of the head of an arc, and of its tail
-NODES = 1 << 16  # in a share of the work at least
-
-
-def neighbours(pairs, base, count):
-    """The first two neighbours of so many nodes from one on, and their masks; pairs are ((node, neighbour), part)."""
-    first, second, masks = array("I", [0]) * count, array("I", [0]) * count, bytearray(count)
-    for (node, neighbour), of_first in pairs:
-        node -= base
-        if first[node] in (0, neighbour + 1):
-            first[node] = neighbour + 1
-            masks[node] |= of_first
-        elif second[node] in (0, neighbour + 1):
-            second[node] = neighbour + 1
-            masks[node] |= of_first * FROM_SECOND
-        else:
-            masks[node] |= MORE
-    return first, second, masks
-
-
-class Arms:
-    """The neighbours of each node: the first two, and which arcs there are between it and them."""
-
-    def __init__(self, count, arcs):
-        """Takes the number of nodes, and arcs as `osm_graph.RoadArcs` has them."""
-        # By node; a neighbour is its number and 1, and 0 is none.
-        self.first, self.second, self.masks = array("I"), array("I"), bytearray()
-
-        def share(first, last):
-            is_own = bytes(first) + b"\1" * (last - first) + bytes(count - last)
-            ends = chain.from_iterable(zip(arcs.heads, arcs.tails))
-            others = chain.from_iterable(zip(arcs.tails, arcs.heads))
-            both = chain.from_iterable(zip(arcs.heads, arcs.tails))
-            pairs = zip(zip(both, others), cycle(PARTS))
-            return neighbours(compress(pairs, map(is_own.__getitem__, ends)), first, last - first)
-
-        for columns in in_shares(count, share, max(NODES, -(-count // processor_count()))):
-            for own, column in zip((self.first, self.second, self.masks), columns):
-                own.extend(column)
-
-    def is_of_two(self, node):
-        return self.second[node] != 0 and not self.masks[node] & MORE
-
-    def may_turn_back(self, node):
-        """Whether at this node of two arms somebody can turn round where the way on is open."""
-        own = self.masks[node]
-        return own & OPEN_FROM_FIRST == OPEN_FROM_FIRST or own & OPEN_FROM_SECOND == OPEN_FROM_SECOND
-
-    def streets(self, nodes, closed):
-        """The nodes of two arms at which one can turn back, along the streets that begin with some nodes."""
-        found, ahead = {}, list(nodes)
-        while ahead:
-            node = ahead.pop()
-            if node in found or node in closed or not self.is_of_two(node) or not self.may_turn_back(node):
-                continue
-            found[node] = True
-            # Along a street that is one way nobody comes back.
-            if self.masks[node] & BOTH_WAYS == BOTH_WAYS:
-                ahead += [self.first[node] - 1, self.second[node] - 1]
-        return found
-
-
 class Rules:
     """What turns at nodes cost beside restrictions, in weights."""
 
@@ -237,18 +165,6 @@ class Rules:
         return sum(cost for least, most, cost in self.costs if least <= angle < most)
 
 
-def crossings(arcs, nodes):
-    """The arcs that arrive at each of these nodes, and those that leave it."""
-    arriving, leaving = {node: [] for node in nodes}, {node: [] for node in nodes}
-    for number in arcs.at(nodes):
-        way, tail, head, after, before = arcs.arc(number)
-        if tail in leaving:
-            leaving[tail].append(Arm(number, way, head, after))
-        if head in arriving:
-            arriving[head].append(Arm(number, way, tail, before))
-    return arriving, leaving
-
-
 def allowed(way, restrictions, leaving):
     """The arcs that may follow an arc of a way at a node, by its restrictions."""
     own = [each for each in restrictions if way in each.sources]
@@ -266,7 +182,7 @@ class Turns:
         self.tails = {}
         self.ends = {}  # by a node, where routes end
         self.closing = []  # the arcs of no cost, as (tail, head)
-        self.rules, self.arms, self.closed = None, None, frozenset()
+        self.rules, self.closed, self.has_restrictions = None, frozenset(), False
         self.trails, self.watched = Trails(), {}  # by a node, the arcs by which one comes there on a trail, and states
         self.watched_heads = {}  # by the number of an arc and a state, where it ends
 
@@ -275,15 +191,15 @@ class Turns:
         self.nodes.append(node)
         return self.count
 
-    def following(self, arm, node, restrictions, leaving, state):
+    def following(self, arm, node, restrictions, crossing, state):
         """Gives what may follow an arc that arrives at a node in a state.
 
         These are the numbers of arcs, each with what the turn costs, and the state if it isn't that of who is on no
         trail before.
         """
-        found = allowed(arm.way, restrictions, leaving) if restrictions else leaving
+        found = allowed(arm.way, restrictions, crossing.leaving) if restrictions else crossing.leaving
         found = [each for each in found if self.trails.allow(state, each)] if state else found
-        is_of_two = bool(self.arms) and self.arms.is_of_two(node)
+        is_of_two = self.has_restrictions and crossing.is_of_two
         if node in self.closed:
             found = [each for each in found if each.node == arm.node]
         elif is_of_two and self.rules.price is None:
@@ -301,28 +217,31 @@ class Turns:
         after = self.trails.after(state, arm)
         return after if after != self.trails.begun(arm.way, arm.node) else None
 
-    def watch(self, restrictions, arriving, leaving):
-        """Finds the arcs of trails by which one comes to nodes, and in which states, from arcs at these nodes."""
-        ahead = [(node, arm, self.trails.begun(arm.way, node)) for node in arriving for arm in arriving[node]]
+    def watch(self, restrictions, crossings):
+        """Finds the arcs of trails by which one comes to nodes, and in which states; by node its `Crossing`."""
+        ahead = [
+            (node, arm, self.trails.begun(arm.way, node)) for node, own in crossings.items() for arm in own.arriving
+        ]
         while ahead:
             node, arm, state = ahead.pop()
-            following = self.following(arm, node, restrictions.get(node, ()), leaving[node], state) if state else ()
-            arms = {each.number: each for each in leaving[node]}
+            following = self.following(arm, node, restrictions.get(node, ()), crossings[node], state) if state else ()
+            arms = {each.number: each for each in crossings[node].leaving}
             for number, _, after in following:
                 own = self.watched.setdefault(arms[number].node, {})
                 if after is not None and (number, after) not in own:
                     own[number, after] = True
-                    come = next(each for each in arriving[arms[number].node] if each.number == number)
+                    arriving = crossings[arms[number].node].arriving
+                    come = next(each for each in arriving if each.number == number)
                     ahead.append((arms[number].node, come, after))
 
-    def add_node(self, node, restrictions, arriving, leaving):
-        """Adds what keeps the turns at a node, where these arcs arrive and leave."""
-        free = tuple((arm.number, 0, None) for arm in leaving)
-        arms = {arm.number: arm for arm in arriving}
-        come = [(arm.number, self.trails.begun(arm.way, node), self.heads, arm.number) for arm in arriving]
+    def add_node(self, node, restrictions, crossing):
+        """Adds what keeps the turns at a node."""
+        free = tuple((arm.number, 0, None) for arm in crossing.leaving)
+        arms = {arm.number: arm for arm in crossing.arriving}
+        come = [(arm.number, self.trails.begun(arm.way, node), self.heads, arm.number) for arm in crossing.arriving]
         come += [(*key, self.watched_heads, key) for key in self.watched.get(node, ())]
         turns = [
-            (self.following(arms[number], node, restrictions, leaving, state), heads, key)
+            (self.following(arms[number], node, restrictions, crossing, state), heads, key)
             for number, state, heads, key in come
         ]
         turns = [turn for turn in turns if turn[0] != free]
@@ -340,13 +259,14 @@ class Turns:
 
     def add_nodes(self, nodes, restrictions, road_arcs):
         """Adds what keeps the turns at some nodes, if it isn't there. Gives the neighbours of those that need it."""
-        nodes = [node for node in nodes if node not in self.ends and self.vertices[node]]
-        arriving, leaving = crossings(road_arcs, nodes)
         beside = {}
         for node in nodes:
-            self.add_node(node, restrictions.get(node, ()), arriving[node], leaving[node])
+            if node in self.ends or not self.vertices[node]:
+                continue
+            crossing = Crossing(road_arcs, node)
+            self.add_node(node, restrictions.get(node, ()), crossing)
             if node in self.ends and node not in self.closed:
-                beside.update(dict.fromkeys(arm.node for arm in (*arriving[node], *leaving[node])))
+                beside.update(dict.fromkeys(arm.node for arm in crossing.arms()))
         return beside
 
     def many(self):
@@ -356,14 +276,13 @@ class Turns:
     def settle(self, rules, found, road_arcs):
         """Adds what keeps the turns and barriers of a map. `road_arcs` are its arcs (`osm_graph.RoadArcs`)."""
         self.rules, self.closed = rules, found.closed_nodes()
-        by_node = {}
+        by_node, self.has_restrictions = {}, bool(found.restrictions)
         if found.restrictions:
-            self.arms = Arms(len(self.vertices), road_arcs)
             by_node = settled_restrictions(found.restrictions, found, road_arcs)
             self.trails = found.restrictions.trails()
         along = self.trails.nodes(road_arcs.heads)
         if along:
-            self.watch(by_node, *crossings(road_arcs, along))
+            self.watch(by_node, {node: Crossing(road_arcs, node) for node in along})
         beside = self.add_nodes(dict.fromkeys((*by_node, *along, *sorted(self.closed))), by_node, road_arcs)
         if found.restrictions:
             self.add_others(beside, by_node, road_arcs)
@@ -381,21 +300,20 @@ class Turns:
         """Adds what keeps the rules of turning round, beside nodes that have more vertices, and prices of turns."""
         rules = self.rules
         if rules.price or rules.costs:
-            others = (node for node in range(len(self.vertices)) if rules.price or not self.arms.is_of_two(node))
+            others = (node for node in range(len(self.vertices)) if rules.price or road_arcs.is_crossing(node))
             beside.update(self.add_nodes(others, by_node, road_arcs))
         if rules.price is None:
-            self.add_nodes(self.arms.streets(beside, self.closed), by_node, road_arcs)
+            self.add_nodes(road_arcs.streets(beside, self.closed), by_node, road_arcs)
 
 
 def settled_restrictions(restrictions, found, road_arcs):
     """The restrictions of a map by node, once those are left out that its roads can't have."""
     settle_ways(restrictions, found, road_arcs)
     lasts = {each.path[-1]: road_arcs.heads[each.path[-1]] for each in restrictions.kept if isinstance(each, Trail)}
-    _, leaving = crossings(road_arcs, dict.fromkeys((*restrictions.by_node(), *lasts.values())))
 
     def on_arcs(each):
         last = lasts[each.path[-1]] if isinstance(each, Trail) else each.via
-        if each.is_only and not any(arm.way in each.targets for arm in leaving[last]):
+        if each.is_only and not any(arm.way in each.targets for arm in Crossing(road_arcs, last).leaving):
             raise NotKept("only to a way that cannot be entered")
         return each
 

@@ -6,11 +6,14 @@ for want of memory, is done without.
 
 import multiprocessing
 import os
+import queue
 import signal
+import threading
 from collections import deque
 from itertools import islice
 
 SHARES = multiprocessing.get_context("fork")  # so that a process has all that was there before
+AHEAD = 8  # results that wait in a process while it goes on
 
 
 def processor_count():
@@ -101,22 +104,42 @@ def in_turn(jobs):
 
 
 def send_shares(connection, make, shares):
+    """Sends results in order, and makes the next ones meanwhile."""
+    made = queue.Queue(AHEAD)
+    sender = threading.Thread(target=send_made, args=(connection, made), daemon=True)
+    sender.start()
     for share in shares:
-        connection.send(make(*share))
+        made.put(make(*share))
+    made.put(None)
+    sender.join()
+
+
+def send_made(connection, made):
+    try:
+        while (result := made.get()) is not None:
+            connection.send(result)
+    except OSError:  # nobody takes it
+        os._exit(1)
 
 
 def in_shares(many, make, size):
-    """The results of `make(first, last)` for shares of so many things, in order. `size` is that of a share."""
+    """The results of `make(first, last)` for shares of so many things, in order. `size` is that of a share.
+
+    The processes begin at once.
+    """
     shares = [(first, min(many, first + size)) for first in range(0, many, size)]
     count = min(processor_count(), len(shares))
     if count < 2:
-        yield from (make(*share) for share in shares)
-        return
-    processes = [begin(send_shares, make, shares[at::count]) for at in range(count)]
+        return (make(*share) for share in shares)
+    return results([begin(send_shares, make, shares[at::count]) for at in range(count)], make, shares)
+
+
+def results(processes, make, shares):
+    """The results of shares that processes send in turn."""
     try:
         for at, share in enumerate(shares):
             try:
-                yield processes[at % count][1].recv()
+                yield processes[at % len(processes)][1].recv()
             except (EOFError, OSError):
                 yield make(*share)
     finally:

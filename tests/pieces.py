@@ -20,7 +20,6 @@ import osm_blocks
 import osm_graph
 import osm_parts
 import osm_to_gr
-import osm_turns
 import processes
 import to_gr
 
@@ -126,7 +125,7 @@ def check(seed, is_head):
     # In some runs the processes end after their first answer.
     whole = processes.answer, processes.send_shares
     for count in (1, 3) if seed % 3 == 0 else (1,):
-        processes.processor_count = osm_turns.processor_count = lambda: count
+        processes.processor_count = lambda: count
         processes.answer, processes.send_shares = (answer_once, send_first) if seed % 6 == 3 else whole
         found = written(options)
         if found != wanted:
@@ -137,7 +136,7 @@ def check(seed, is_head):
 
 def main():
     many = int(sys.argv[1]) if len(sys.argv) > 1 else 120
-    osm_blocks.PIECE, osm_graph.ROADS, osm_graph.LINES, osm_parts.MANY, osm_turns.NODES = 300, 2, 3, 2, 2
+    osm_blocks.PIECE, osm_graph.ROADS, osm_graph.LINES, osm_parts.MANY = 300, 2, 3, 2
     osm_blocks.scan = Counted(osm_blocks.scan)
     is_head, refused = osm_blocks.is_head, 0
     with tempfile.TemporaryDirectory() as folder:
