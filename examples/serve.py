@@ -24,11 +24,14 @@ With --streets it is asked by coordinates too, as OSRM is (docs/COOKBOOK.md), of
 
     --port NUMBER        in place of 8080; 0 takes a free one
     --address ADDRESS    in place of 127.0.0.1, which this machine alone can ask
-    --origin ORIGIN      lets pages of a website read answers, as https://maps.example.org; * those of any
+    --origin ORIGIN      lets pages of a website read answers, as https://maps.example.org, and close streets; with *
+                         those of any read answers, and close nothing
     --processes COUNT    how many processes answer (2). Each has programs of its own, and so a graph in memory
 
 Vertices count from 1, as in the file. A question that is none has the status 400, a vertex that is not there 404, and
 503 a question for which memory lacks or whose program ended twice. /health asks the program: 200 says that it answers.
+POST and DELETE have 403 if a browser sends them for a page of another website, or to a name that is neither localhost,
+nor the address, nor that of --origin.
 
 If a program ends, another one begins at the next question, and that is asked again. If a process ends, another takes
 its place; if it can't begin, as with a graph that is refused, all end with status 2. SIGTERM and Ctrl-C end all.
@@ -143,8 +146,25 @@ class Handler(BaseHTTPRequestHandler):
 
     def reply(self, method):
         origin = self.server.origin
+        if method != "GET" and not self.is_own():
+            message = "pages of another address close nothing here: --origin names one that may"
+            self.send_json(403, {"code": "Forbidden", "message": message})
+            return
         headers = {"Access-Control-Allow-Origin": origin} if origin else {}
         self.send_json(*self.server.answers.answer(method, self.path), headers)
+
+    def is_own(self):
+        """Tells if a request comes from no page of another website, by the two headers that a browser sends.
+
+        `Host` is looked at, too, as a website can have its own name lead to this machine.
+        """
+        host, origin, named = self.headers.get("Host", ""), self.headers.get("Origin"), self.server.origin
+        names = {"localhost", self.connection.getsockname()[0]}
+        origins = {None, f"http://{host}", f"https://{host}"}
+        if named and named != "*":
+            names.add(urlsplit(named).hostname)
+            origins.add(named)
+        return re.sub(":[0-9]*$", "", host).lower() in names and origin in origins
 
     def send_json(self, status, answer, headers=None):
         self.send(status, "application/json", json.dumps(answer).encode() + b"\n", headers)

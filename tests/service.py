@@ -81,14 +81,27 @@ STREETS = [
 ]
 
 
+# Who closes a street, by the name to which a browser sends the request and the address of its page, and the status. @ is
+# the service's own address.
+CLOSERS = [
+    ({}, 200), ({"Origin": "http://@"}, 200), ({"Host": "localhost:9"}, 200), ({"Host": "LOCALHOST"}, 200),
+    ({"Host": "localhost:9", "Origin": "http://localhost:9"}, 200), ({"Origin": "https://maps.example.org"}, 200),
+    ({"Host": "maps.example.org", "Origin": "https://maps.example.org"}, 200), ({"Host": "maps.example.org"}, 200),
+    ({"Origin": "http://127.0.0.1:9"}, 403), ({"Origin": "null"}, 403), ({"Origin": "https://example.net"}, 403),
+    ({"Origin": "https://maps.example.org.example.net"}, 403), ({"Host": "example.net"}, 403), ({"Host": "[::1"}, 403),
+    ({"Host": "example.net", "Origin": "http://example.net"}, 403), ({"Host": "127.0.0.1.example.net"}, 403),
+    ({"Host": "example.net", "Origin": "https://maps.example.org"}, 403), ({"Host": ""}, 403),
+]
+
+
 def begin(graph, *words):
     command = [sys.executable, "-B", "examples/serve.py", "--port", "0", *words, graph]
     return subprocess.Popen(command, stderr=subprocess.PIPE, text=True)
 
 
-def ask(port, page, method="GET"):
+def ask(port, page, method="GET", headers=None):
     """The status and the answer of a page."""
-    request = urllib.request.Request(f"http://127.0.0.1:{port}{page}", method=method)
+    request = urllib.request.Request(f"http://127.0.0.1:{port}{page}", method=method, headers=headers or {})
     try:
         with urllib.request.urlopen(request, timeout=20) as reply:
             return reply.status, json.load(reply)
@@ -210,6 +223,20 @@ def check_closings(port, folder, words):
     expect("not opened", ask(port, street, "DELETE") == (200, {"code": "Ok", "closings": 0}) and seconds() == {311.7})
 
 
+def check_closers(port):
+    """Pages of other websites change nothing, and read what they did."""
+    street = "/close/v1/car/8.0045,50.0013"
+    for headers, wanted in CLOSERS:
+        headers = {name: text.replace("@", f"127.0.0.1:{port}") for name, text in headers.items()}
+        status, answer = ask(port, street, "POST", headers)
+        expect(f"{headers}: {status} {answer}", status == wanted and (answer["code"] == "Ok") == (wanted == 200))
+        wanted_left = {"code": "Ok", "closings": 0}
+        if wanted == 403:
+            expect(f"{headers} opens", ask(port, street, "DELETE", headers)[0] == 403)
+            expect(f"{headers} reads nothing", ask(port, f"/nearest/v1/car/{A}", headers=headers)[0] == 200)
+        expect(f"{headers}: left", ask(port, street, "DELETE") == (200, wanted_left))
+
+
 def check_polyline():
     """The example of Google's page on encoded polylines."""
     sys.path.insert(0, "examples")
@@ -223,15 +250,19 @@ def check_streets():
     check_polyline()
     with tempfile.TemporaryDirectory() as folder:
         words = town(folder)
-        server = begin(f"{folder}/map.gr", "--streets", *words, "--closed", f"{folder}/closed", "--programs", "2")
+        words_of_server = [*words, "--closed", f"{folder}/closed", "--programs", "2"]
+        server = begin(f"{folder}/map.gr", "--streets", *words_of_server, "--origin", "https://maps.example.org")
         port = re.search(r":(\d+), 2 processes", server.stderr.readline())[1]
         try:
+            # Files are written over below, so both processes have to have read them.
+            expect("one process alone answers", within_seconds(lambda: len(answering(port)) == 2))
             for page, wanted in STREETS:
                 status, answer = ask(port, page)
                 found = {path: part_of(answer, path) for path in wanted}
                 is_ok = status == (200 if answer["code"] == "Ok" else 400)
                 expect(f"{page}: {status} {found}, wanted {wanted}", is_ok and found == wanted)
             check_closings(port, folder, words)
+            check_closers(port)
         finally:
             server.terminate()
             _, said = server.communicate(timeout=30)
