@@ -9,10 +9,11 @@ ghost use Rattle.least_costs.specs.declared.start.Start.TheVariants.{At};
 use crate::costs::costs_in_order;
 use crate::near::Near;
 use crate::near::budget::SearchLimit;
-use crate::near::room::{fit, labels_above, labels_by, labels_over};
+use crate::near::room::{fit, labels_above, labels_by};
 use crate::network::Network;
 use crate::start::Start;
 use hierarchy::{Hierarchy, TargetSweep};
+use near_labels::SearchSpace;
 use std::alloc::Global;
 
 /// Targets that all sources share, with the places of a hierarchy above them.
@@ -127,5 +128,29 @@ impl Near {
         self.count_visits();
         self.count_backward_visits();
         labels
+    }
+}
+
+/// The least labels of the targets that sources share.
+fn labels_over(
+    space: &mut Option<SearchSpace>,
+    alloc: Global,
+    network: &Network,
+    shared: &SharedTargets<'_>,
+    source: u32,
+) -> Option<Vec<u64>>
+    requires hierarchy { shared.now.hierarchy.now.graph ≡ graph_of network.now }
+    requires sweep { shared.now.sweep.hierarchy ≡ shared.now.hierarchy.now }
+    requires source { source < network.now.n }
+    ensures { IfSome result (AreLabelsTo network.now.arcs source shared.now.sweep.targets) }
+{
+    match space {
+        Some(space) if space.vertices() == network.n() as usize => {
+            space.allow(u32::MAX, usize::MAX);
+            shared
+                .sweep
+                .costs_from(alloc, shared.hierarchy, space, source)
+        }
+        _ => None,
     }
 }

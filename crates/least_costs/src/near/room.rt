@@ -9,7 +9,6 @@ ghost use Rattle.near_labels.specs.Found.{AreWalksFound};
 ghost use Rattle.least_costs.specs.Near.{AreCostsWithin, AreLabelsTo};
 ghost use Rattle.least_costs.specs.Network.{graph_of};
 
-use crate::near::above::SharedTargets;
 use crate::near::budget::SearchLimit;
 use crate::network::Network;
 use hierarchy::Hierarchy;
@@ -227,30 +226,6 @@ pub(crate) fn labels_above(
             forward.allow(u32::MAX, usize::MAX);
             backward.allow(u32::MAX, usize::MAX);
             hierarchy.costs_to(alloc, forward, backward, source, targets)
-        }
-        _ => None,
-    }
-}
-
-/// The least labels of the targets that sources share.
-pub(crate) fn labels_over(
-    space: &mut Option<SearchSpace>,
-    alloc: Global,
-    network: &Network,
-    shared: &SharedTargets<'_>,
-    source: u32,
-) -> Option<Vec<u64>>
-    requires hierarchy { shared.now.hierarchy.now.graph ≡ graph_of network.now }
-    requires sweep { shared.now.sweep.hierarchy ≡ shared.now.hierarchy.now }
-    requires source { source < network.now.n }
-    ensures { IfSome result (AreLabelsTo network.now.arcs source shared.now.sweep.targets) }
-{
-    match space {
-        Some(space) if space.vertices() == network.n() as usize => {
-            space.allow(u32::MAX, usize::MAX);
-            shared
-                .sweep
-                .costs_from(alloc, shared.hierarchy, space, source)
         }
         _ => None,
     }
