@@ -275,7 +275,7 @@ fn hierarchy_option<'a>(alloc: Global) -> Arg<'a>
     ensures rule { rule_of result ≡ hierarchy_rule }
     ensures local { result.global ≡ false }
 {
-    option(alloc, "hierarchy", "WHEN", HIERARCHY_USES).default_value("auto")
+    option(alloc, "hierarchy", "USE", HIERARCHY_USES).default_value("auto")
 }
 
 fn shift_option<'a>(alloc: Global, help: &'a str) -> Arg<'a>

@@ -22,7 +22,7 @@ pub(crate) const KINDS: &str = "distances, levels or components";
 pub(crate) const LABELS: &str = "text, or raw: 8 bytes each";
 
 /// The values of `--hierarchy`.
-pub(crate) const HIERARCHY_USES: &str = "Shortcuts for far pairs: auto, no or now";
+pub(crate) const HIERARCHY_USES: &str = "Shortcuts for far pairs: auto, no, now";
 
 pub(crate) const WORKERS: Numbers = Numbers {
     option: "workers",
