@@ -195,6 +195,33 @@ dropped-target limit low graph t but other old new below capped above told dropp
       | inr gone ↦ omega (arith, gone.1, capped, above, told limit t (slice_index old t) below gone.0 [] refl)
     ]
 
+-- what is past the limit once labels were dropped was so before
+pub dropped-far : (but limit low : ℕ) (other old new : List ℕ)
+    → AreDropped but limit low other old new
+    → (v : ℕ) → limit ≤ slice_index new v + min (slice_index other v) low
+    → limit ≤ slice_index old v + min (slice_index other v) low
+dropped-far but limit low other old new dropped v far =
+    elim (dropped v) [
+      | inl same ↦ omega (arith, far, same)
+      | inr gone ↦ gone.0
+    ]
+
+-- labels dropped in two steps are dropped
+pub dropped-more : (but limit low : ℕ) (other old between new : List ℕ)
+    → AreDropped but limit low other old between
+    → AreDropped but limit low other between new
+    → AreDropped but limit low other old new
+dropped-more but limit low other old between new first second v =
+    elim (second v) [
+      | inl same ↦
+          elim (first v) [
+            | inl kept ↦ inl (same ∙ kept)
+            | inr gone ↦ inr (gone.0, same ∙ gone.1, gone.2)
+          ]
+      | inr gone ↦
+          inr (dropped-far but limit low other old between first v gone.0, gone.1, gone.2)
+    ]
+
 -- the least that the two labels of some vertices make, or INF
 pub record IsLeastSeen (n : ℕ) (forward backward : ℕ → ℕ) (seen : List ℕ) (least : ℕ) : Type 0 where
   pub capped : least ≤ INF

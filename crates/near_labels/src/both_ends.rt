@@ -249,9 +249,9 @@ fn way_seen(
     label_words::laws::pauses_are_least_toward();
     let _ = csr.n();
     let limit = forward.labels[target as usize].saturating_add(1).min(INF);
-    if !forward.is_marked_past(side, limit) {
-        return None;
+    if forward.drop_past(source, side, limit) {
+        Some(limit)
+    } else {
+        None
     }
-    forward.drop_past(source, side, limit);
-    Some(limit)
 }

@@ -200,47 +200,28 @@ impl State {
         !self.marks[place] || bounds.is_past(v, self.labels[place], limit)
     }
 
-    /// Tells if each marked vertex is past the limit by a search from the target, by the noted vertices.
-    pub(crate) fn is_marked_past(&self, side: &TargetSide<'_>, limit: u64) -> bool
-        requires { AreNoted self.now.labels.items self.now.marks.items self.now.noted.items }
-        ensures { result ≡ true → AreMarkedFarByLabels limit side.now.low side.now.labels.now
-            (rest_of self.now.labels.items self.now.marks.items) }
+    /// Drops the label of each vertex but one that is past the limit by a search from the target, by the noted vertices.
+    /// Marks stay. Returns false if some marked vertex isn't past it; then some labels may be dropped already.
+    pub(crate) fn drop_past(&mut self, but: u32, side: &TargetSide<'_>, limit: u64) -> bool
+        requires { AreNoted self.old.labels.items self.old.marks.items self.old.noted.items }
+        ensures count { length self.new.labels.items ≡ length self.old.labels.items }
+        ensures noted { AreNoted self.new.labels.items self.new.marks.items self.new.noted.items }
+        ensures dropped { AreDropped but limit side.now.low side.now.labels.now self.old.labels.items self.new.labels.items }
+        ensures far { result ≡ true → AreMarkedFarByLabels limit side.now.low side.now.labels.now
+            (rest_of self.old.labels.items self.old.marks.items) }
     {
-        for v in &self.noted {
-            if !self.is_past(*v, side, limit) {
+        for place in 0..self.noted.len() {
+            let v = self.noted[place];
+            if !self.drop_if_past(v, but, side, limit) {
                 return false;
             }
         }
         true
     }
 
-    /// Tells if a vertex isn't marked, or is so far.
-    fn is_past(&self, v: u32, side: &TargetSide<'_>, limit: u64) -> bool
-        requires count { length self.now.marks.items ≡ length self.now.labels.items }
-        requires vertex { v < length self.now.labels.items }
-        ensures { result ≡ true → mark_of self.now.marks.items v ≡ true →
-            limit ≤ slice_index self.now.labels.items v + min (slice_index side.now.labels.now v) side.now.low }
-    {
-        let place = v as usize;
-        !self.marks[place] || side.is_past(v, self.labels[place], limit)
-    }
-
-    /// Drops the label of each vertex but one that is past the limit by a search from the target, by the noted vertices.
-    /// Marks stay.
-    pub(crate) fn drop_past(&mut self, but: u32, side: &TargetSide<'_>, limit: u64)
-        requires { AreNoted self.old.labels.items self.old.marks.items self.old.noted.items }
-        ensures count { length self.new.labels.items ≡ length self.old.labels.items }
-        ensures noted { AreNoted self.new.labels.items self.new.marks.items self.new.noted.items }
-        ensures dropped { AreDropped but limit side.now.low side.now.labels.now self.old.labels.items self.new.labels.items }
-    {
-        for place in 0..self.noted.len() {
-            let v = self.noted[place];
-            self.drop_if_past(v, but, side, limit);
-        }
-    }
-
-    /// Drops the label of a noted vertex, if it is past the limit and another one than `but`.
-    fn drop_if_past(&mut self, v: u32, but: u32, side: &TargetSide<'_>, limit: u64)
+    /// Drops the label of a noted vertex, if it is past the limit and another one than `but`. Returns false if it is
+    /// marked and not past the limit.
+    fn drop_if_past(&mut self, v: u32, but: u32, side: &TargetSide<'_>, limit: u64) -> bool
         requires noted { AreNoted self.old.labels.items self.old.marks.items self.old.noted.items }
         requires within { Contains self.old.noted.items v }
         ensures labels { AreDropped but limit side.now.low side.now.labels.now self.old.labels.items self.new.labels.items }
@@ -248,12 +229,18 @@ impl State {
         ensures marks { self.new.marks ≡ self.old.marks }
         ensures list { self.new.noted ≡ self.old.noted }
         ensures noted { AreNoted self.new.labels.items self.new.marks.items self.new.noted.items }
+        ensures far { result ≡ true → mark_of self.old.marks.items v ≡ true →
+            limit ≤ slice_index self.old.labels.items v + min (slice_index side.now.labels.now v) side.now.low }
     {
         let place = v as usize;
-        if v == but || !side.is_past(v, self.labels[place], limit) {
-            return;
+        if !side.is_past(v, self.labels[place], limit) {
+            return !self.marks[place];
+        }
+        if v == but {
+            return true;
         }
         self.labels[place] = INF;
+        true
     }
 
     /// Lets the marked vertices wait anew, by the noted ones, in the order of another guide. Returns false if memory is

@@ -117,7 +117,8 @@ fn visit(
             head,
             weight,
         };
-        if hops[head as usize] == NONE && is_tight(labels, limit, &arc) {
+        // Labels come first: most arcs aren't tight, and then no other list is read.
+        if is_tight(labels, limit, &arc) && hops[head as usize] == NONE {
             // This comes first, since memory may be refused: a vertex with a hop is in the queue.
             queue.push(head)?;
             hops[head as usize] = hop;

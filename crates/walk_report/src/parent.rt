@@ -65,7 +65,8 @@ fn lead_from(csr: &Csr, labels: &[u64], hops: &[u32], tail: u32, parents: &mut [
     }
     for &Target { head, weight } in csr.row(tail) {
         let arc = ArcRec { tail, head, weight };
-        if tail < parents[head as usize] && is_leading(labels, hops, &arc) {
+        // Labels come first: most arcs aren't tight, and then no other list is read.
+        if is_leading(labels, hops, &arc) && tail < parents[head as usize] {
             parents[head as usize] = tail;
         }
     }

@@ -9,8 +9,8 @@ use Rattle.near_labels.proofs.Meeting.{dropped-target, dropped-toward}
 use Rattle.near_labels.proofs.Noting.{source-label}
 use Rattle.near_labels.proofs.both_ends.way_seen.Goals as goal
 
-pub returns-clause-start : goal.returns-clause-start
-returns-clause-start c =
+pub returns-then-drop_past-clause-start : goal.returns-then-drop_past-clause-start
+returns-then-drop_past-clause-start c =
     let forward = c.args.forward.now in
     elim (c.drop_past.ensures.dropped c.args.source) [
       | inl same ↦
@@ -19,8 +19,8 @@ returns-clause-start c =
       | inr gone ↦ absurd (gone.2 refl)
     ]
 
-pub returns-clause-least : goal.returns-clause-least
-returns-clause-least c =
+pub returns-then-drop_past-clause-least : goal.returns-then-drop_past-clause-least
+returns-then-drop_past-clause-least c =
     let graph = c.args.csr.now in
     let forward = c.args.forward.now in
     let labels = forward.labels.items in
@@ -32,12 +32,12 @@ returns-clause-least c =
     c.n.ensures.in_rows c.requires.pause
     (λ v below marked.
     c.requires.told limit v (slice_index labels v) below
-    (c.is_marked_past.ensures c.if-not-is_marked_past.false v (omega (arith, below, c.requires.pause.going.marks)) marked)) in
+    (c.drop_past.ensures.far c.if-drop_past.true v (omega (arith, below, c.requires.pause.going.marks)) marked)) in
     dropped-toward limit side.low graph seeds c.args.target c.args.source side.labels.now labels
     c.drop_past.new.self.labels.items least c.requires.told c.drop_past.ensures.dropped
 
-pub returns-clause-past : goal.returns-clause-past
-returns-clause-past c =
+pub returns-then-drop_past-clause-past : goal.returns-then-drop_past-clause-past
+returns-then-drop_past-clause-past c =
     let graph = c.args.csr.now in
     let labels = c.args.forward.now.labels.items in
     let side = c.args.side.now in

@@ -15,9 +15,9 @@ use Rattle.walk_report.proofs.LeastWalks.{tight-more}
 use Rattle.walk_report.proofs.Searching.{search-small, search-push, search-near}
 use Rattle.walk_report.proofs.hop.visit.Invariants.{IsVisiting}
 use Rattle.walk_report.proofs.hop.visit.Goals as goal
-use Rattle.walk_report.proofs.hop.visit.Goals.{then-hops-head+then-is_tight+in_ok-push, else-hops-head}
-use Rattle.walk_report.proofs.hop.visit.Goals.{else-hops-head-via-then-hops-head+else-is_tight}
-use Rattle.walk_report.proofs.hop.visit.Goals.{else-hops-head-via-else-hops-head}
+use Rattle.walk_report.proofs.hop.visit.Goals.{then-is_tight+then-hops-head+in_ok-push, else-is_tight}
+use Rattle.walk_report.proofs.hop.visit.Goals.{else-is_tight-via-then-is_tight+else-hops-head}
+use Rattle.walk_report.proofs.hop.visit.Goals.{else-is_tight-via-else-is_tight}
 
 -- the head of a tight arc gets the hop
 reaches : {limit : ℕ} {graph : Graph} → IsInRows graph → {label : ℕ → ℕ} {hops queue : List ℕ} {next u h s : ℕ}
@@ -60,6 +60,13 @@ overflow_add-hop c =
     let small = search-small c.requires.search c.row-row.ensures.in_rows.vertices c.requires.place in
     omega (arith, small, ap (slice_index c.args.hops.now) is)
 
+pub is_tight-requires-clause-head : goal.is_tight-requires-clause-head
+is_tight-requires-clause-head c =
+    let row = c.row-row.ensures in
+    let at = row_arcs c.args.csr.now row.in_rows c.index-u.result.now _ row.targets c.loop-head.head-index no_target
+    (omega arith) in
+    omega (arith, at.1, c.requires.labels)
+
 pub bounds-hops-head : goal.bounds-hops-head
 bounds-hops-head c =
     let row = c.row-row.ensures in
@@ -77,22 +84,22 @@ loop-head-preserved c =
     let Tight = IsTightBelow c.args.limit (slice_index c.args.labels.now) in
     let HasHop : ℕ → Type 0 = λ hop. hop ≢ NONE in
     let inv = c.loop-head.invariant in
-    elim c.if-hops-head.branch [
-      | then-hops-head+then-is_tight+in_ok-push b ↦
+    elim c.if-is_tight.branch [
+      | then-is_tight+then-hops-head+in_ok-push b ↦
           rw (b.hops-is, b.queue-is, b.in_ok-push.ensures.items) (
             reaches rows inv.0 (get_or row k no_target) at
-                (b.is_tight.ensures.0 b.if-is_tight.true) b.if-hops-head.true,
+                (c.is_tight.ensures.0 b.if-is_tight.true) b.if-hops-head.true,
             filled-put Tight HasHop c.loop-head.hops u row k _ (omega arith) (omega (arith, at.1, inv.0.search.vertices))
                 (λ is. absurd (omega (arith, is, search-small inv.0.search rows.vertices inv.0.place, inv.0.hop))) inv.1,
           )
-      | else-hops-head b ↦
+      | else-is_tight b ↦
           rw (b.hops-is, b.queue-is) (
             inv.0,
             filled-pass Tight HasHop c.loop-head.hops u row k (omega arith) inv.1
-                (elim b.else-hops-head.branch [
-                  | else-hops-head-via-then-hops-head+else-is_tight b' ↦
-                      λ tight. absurd (false≢true (sym b'.if-is_tight.false ∙ b'.is_tight.ensures.1 tight))
-                  | else-hops-head-via-else-hops-head b' ↦ λ _. b'.if-hops-head.false
+                (elim b.else-is_tight.branch [
+                  | else-is_tight-via-then-is_tight+else-hops-head b' ↦ λ _. b'.if-hops-head.false
+                  | else-is_tight-via-else-is_tight b' ↦
+                      λ tight. absurd (false≢true (sym b'.if-is_tight.false ∙ c.is_tight.ensures.1 tight))
                 ]),
           )
     ]
