@@ -1,6 +1,7 @@
-//! Tables of networks with their costs, random ones beside the plain way, sources side by side, landmarks, and
+//! Tables of networks with their costs, random ones beside the plain way, sources side by side, landmarks, changes, and
 //! what is kept between calls.
 
+mod changes;
 mod choices;
 mod draws;
 mod hierarchies;

@@ -1,6 +1,8 @@
 -- Cells of landmarks: what they differ by tells what walks cost at least.
 use Rattle.std.proofs.Common.{◌≡◌, ◌≢◌, ◌∙◌, ℕ, ◌+◌, ◌-◌, ◌*◌, ◌^◌, ◌<◌, ◌≤◌, Bool, true, List, ap, arith, get_or, inl, inr}
-use Rattle.std.proofs.Common.{length, refl, subst, sym}
+use Rattle.std.proofs.Common.{length, refl, subst, sym, [], ◌++◌}
+use Rattle.std.proofs.lemmas.List.{append-nil}
+use Rattle.route_walks.specs.declared.graph.ArcRec.{ArcRec}
 use Rattle.std.specs.Prelude.{min, slice_index}
 use Rattle.std.specs.List.{All}
 use Rattle.std.proofs.Math.Nat.{add-mul}
@@ -16,6 +18,7 @@ use Rattle.csr_graph.specs.declared.bounds.Bounds.{Bounds}
 use Rattle.csr_graph.specs.declared.bounds.TheConstants.{FINITE_CELLS}
 use Rattle.csr_graph.specs.Graph.{Graph}
 use Rattle.least_costs.specs.Landmarks.{AreHighest, AreLandmarks, AreLowest, IsCell, IsLightGraph, IsTold, LandmarksSeen, column}
+use Rattle.least_costs.proofs.Covering.{graph_told, told-graph}
 use Rattle.least_costs.specs.declared.network.landmarks.TheConstants.{MAX_UNIT}
 
 -- some units, but not so many as to INF
@@ -167,16 +170,24 @@ told-same graph unit both other cell same is less told v t v-in t-in =
           (ap (λ (x : ℕ). cell v - x) (sym there) ∙ ap (λ (x : ℕ). x - same t) (sym here)) (tells.1 (less twins) walk walks),
     )
 
--- one landmark more, or other costs of one
+-- one landmark more, or other costs of one, if no arc is gone
 pub landmarks-more : (seen : LandmarksSeen) (at : ℕ) (both : Bool) (cells labels : List ℕ) → AreLandmarks seen
+    → seen.gone ≡ []
     → All (IsRelaxed (slice_index labels)) seen.graph.arcs
     → (both ≡ true → All (IsRelaxedBackward (slice_index labels)) seen.graph.arcs)
     → (both ≡ true → seen.is_two_way ≡ true)
     → length cells ≡ length seen.cells
     → ((v : ℕ) → v < seen.graph.n → IsCell seen.unit (column seen.count cells at v) (slice_index labels v))
     → ((i v : ℕ) → i < seen.count → i ≢ at → column seen.count cells i v ≡ column seen.count seen.cells i v)
-    → AreLandmarks (record { graph = seen.graph; count = seen.count; cells = cells; unit = seen.unit; is_two_way = both })
-landmarks-more seen at both cells labels are relaxed backward less same put others = record {
+    → AreLandmarks (record {
+      graph = seen.graph;
+      count = seen.count;
+      cells = cells;
+      unit = seen.unit;
+      is_two_way = both;
+      gone = seen.gone;
+    })
+landmarks-more seen at both cells labels are none relaxed backward less same put others = record {
   light = are.light;
   unit = are.unit;
   room = same ∙ are.room;
@@ -188,12 +199,14 @@ landmarks-more seen at both cells labels are relaxed backward less same put othe
   told = λ i i-in.
       elim (cases_eq i at) [
         | inl is ↦
-            subst (λ (k : ℕ). IsTold seen.graph seen.unit both (column seen.count cells k)) (sym is)
+            subst (λ (k : ℕ). IsTold (graph_told seen) seen.unit both (column seen.count cells k)) (sym is)
+            (subst (λ (arcs : List ArcRec). IsTold (record { n = seen.graph.n; arcs = arcs }) seen.unit both (column seen.count cells at))
+            (sym (append-nil seen.graph.arcs) ∙ ap (λ (gone : List ArcRec). seen.graph.arcs ++ gone) (sym none))
             (labels-told seen.graph seen.unit both (column seen.count cells at) (slice_index labels) are.light are.unit relaxed
-            backward put)
+            backward put))
         | inr differs ↦
-            told-same seen.graph seen.unit seen.is_two_way both (column seen.count seen.cells i) (column seen.count cells i)
-            (λ v v-in. others i v i-in differs) less (are.told i i-in)
+            told-same (graph_told seen) seen.unit seen.is_two_way both (column seen.count seen.cells i)
+            (column seen.count cells i) (λ v v-in. others i v i-in differs) less (are.told i i-in)
       ];
 }
 
@@ -214,7 +227,7 @@ landmarks-bound seen bounds are within lowest highest cells units v i below here
     let own : slice_index bounds.cells.now (v * count + i) ≡ cell v =
     ap (λ (cs : List ℕ). slice_index cs (v * count + i)) cells
     ∙ ap (λ (c : ℕ). slice_index seen.cells (v * c + i)) lowest.count in
-    let told = are.told i i-in in (
+    let told = told-graph seen i are i-in in (
       λ k d lt walk walks.
           let t = get_or bounds.targets.now k d in
           let more = bound-more seen.unit (low - cell v) (cell t - cell v) (omega (arith, lowest.each i i-in k d lt)) in

@@ -8,6 +8,7 @@ pub mod Taken
 pub mod Filling
 pub mod Reaching
 pub mod Bounds
+pub mod Covering
 pub mod Cells
 pub mod Shared
 pub mod Facts

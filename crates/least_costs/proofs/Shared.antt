@@ -13,14 +13,14 @@ use Rattle.route_walks.specs.contracts.graph.ArcRec as arc
 -- what is shared if its parts are
 pub ruleset parts_sync = (as_row_sync, declared_sync, variants_sync, global_sync, crosses, sendable)
 
-pub landmarks_sync : IsSync landmarks.the_row
-landmarks_sync = search parts_sync depth 12
-
 cost_sync : IsSync cost.the_row
 cost_sync = search parts_sync depth 9
 
 arc_sync : IsSync arc.the_row
 arc_sync = search parts_sync depth 9
+
+pub landmarks_sync : IsSync landmarks.the_row
+landmarks_sync = search (arc_sync, parts_sync) depth 16
 
 reversed_sync : IsSync reversed.the_row
 reversed_sync = search (csr_sync, parts_sync) depth 12

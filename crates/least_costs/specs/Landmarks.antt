@@ -1,5 +1,6 @@
 -- Landmarks as contracts see them: cells of vertices, whose differences tell what walks cost at least.
-use Rattle.std.specs.Prelude.{◌≡◌, ℕ, ◌+◌, ◌-◌, ◌*◌, ◌<◌, ◌≤◌, Bool, true, false, List, All, length, slice_index}
+use Rattle.std.specs.Prelude.{◌≡◌, ℕ, ◌+◌, ◌-◌, ◌*◌, ◌<◌, ◌≤◌, ◌++◌, Bool, true, false, List, All, Contains, length, slice_index}
+use Rattle.route_walks.specs.declared.graph.ArcRec.{ArcRec}
 use Rattle.route_walks.specs.declared.graph.TheConstants.{INF, MAX_VERTICES}
 use Rattle.route_walks.specs.Bounds.{IsBound}
 use Rattle.route_walks.specs.Walk.{IsGraph}
@@ -18,6 +19,26 @@ pub record LandmarksSeen : Type 0 where
   pub unit : ℕ
   -- if costs towards a landmark are those from it, as far as cells tell
   pub is_two_way : Bool
+  -- arcs that cells count in, though the graph has them no more
+  pub gone : List ArcRec
+
+-- the arcs that cells count in
+abbrev pub counted_in : LandmarksSeen → List ArcRec
+counted_in seen = seen.graph.arcs ++ seen.gone
+
+-- arcs are among others
+abbrev pub AreAmong : List ArcRec → List ArcRec → Type 0
+AreAmong others arcs = All (λ arc. Contains others arc) arcs
+
+-- among some arcs is one between the ends of an arc that weighs no more
+pub record HasCheaper (others : List ArcRec) (arc : ArcRec) : Type 0 where
+  pub weight : ℕ
+  pub within : Contains others (record { tail = arc.tail; head = arc.head; weight = weight })
+  pub cheap : weight ≤ arc.weight
+
+-- for each arc one of the others leads between its ends and weighs no more
+abbrev pub AreCovered : List ArcRec → List ArcRec → Type 0
+AreCovered arcs others = All (HasCheaper others) arcs
 
 -- the cell of v for the landmark i
 abbrev pub column : ℕ → List ℕ → ℕ → ℕ → ℕ
@@ -48,7 +69,8 @@ pub record AreLandmarks (seen : LandmarksSeen) : Type 0 where
   pub room : length seen.cells ≡ seen.count * seen.graph.n
   pub fit : (i v : ℕ) → i < seen.count → v < seen.graph.n → column seen.count seen.cells i v ≤ 65535
   pub told : (i : ℕ) → i < seen.count
-      → IsTold seen.graph seen.unit seen.is_two_way (column seen.count seen.cells i)
+      → IsTold (record { n = seen.graph.n; arcs = counted_in seen }) seen.unit seen.is_two_way
+      (column seen.count seen.cells i)
 
 -- by landmark a cell that is at most those of some vertices
 pub record AreLowest (seen : LandmarksSeen) (vertices low : List ℕ) : Type 0 where

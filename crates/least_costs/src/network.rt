@@ -137,7 +137,8 @@ impl Network {
     }
 
     /// Makes the network without the arcs that lead from the first vertex of a pair to the second, and with more arcs,
-    /// by the same cost. All other arcs stay. The added arcs come last in each row. Shares nothing with this one.
+    /// by the same cost. All other arcs stay. The added arcs come last in each row. Shares landmarks with this one, if each
+    /// added arc takes the place of a cheaper one that led between its ends as they were chosen, and else has none.
     ///
     /// # Errors
     ///
@@ -157,10 +158,15 @@ impl Network {
     {
         let added = self.along(alloc, added)?;
         let rows = self.rows.changed(alloc, removed, &added)?;
+        // Its bounds stay if no walk has become cheaper.
+        let landmarks = match &self.landmarks {
+            Some(told) => told.after(alloc, &self.rows, &rows, removed, &added),
+            None => None,
+        };
         Ok(Network {
             rows,
             reversed: None,
-            landmarks: None,
+            landmarks,
             shortcuts: None,
             cost: self.cost,
             added: Vec::new(alloc),

@@ -6,29 +6,53 @@ use Rattle.route_walks.specs.declared.graph.ArcRec.{ArcRec}
 use Rattle.route_walks.specs.Walk.{HaveSameArcs, IsArcBelow, IsGraph}
 use Rattle.least_costs.specs.declared.cost.Cost.{Cost}
 use Rattle.csr_graph.specs.Changes.{without}
-use Rattle.least_costs.specs.Network.{NetworkSeen, arcs_of}
+use Rattle.least_costs.specs.Network.{AreLight, NetworkSeen, arcs_of}
 use Rattle.least_costs.proofs.Networks.{over-same}
 use Rattle.least_costs.proofs.SameRows.{changed_arcs, same_arcs-filter}
+use Rattle.least_costs.proofs.network.Network.changed.Goals.{in-Some, in-None}
 use Rattle.least_costs.proofs.network.Network.changed.Goals as goal
+
+-- the weights stay small
+light-after : (removed : List (ℕ × ℕ)) (before after added : List ArcRec) → AreLight before → AreLight added
+    → HaveSameArcs after (without removed before ++ added) → AreLight after
+light-after removed before after added light more same =
+    let IsLight = λ (arc : ArcRec). arc.weight < 2 ^ 32 in
+    over-same IsLight after _ same
+    (All-append IsLight (without removed before) added (All-filter _ IsLight before light) more)
+
+pub after-landmarks-requires-clause-light : goal.after-landmarks-requires-clause-light
+after-landmarks-requires-clause-light c =
+    let rows = c.in_ok-rows.ensures in
+    record {
+      few = rows.in_rows.vertices;
+      ends = rows.in_rows.ends;
+      light =
+          light-after c.args.removed.now c.self.inside.rows.arcs c.in_ok-rows.rows.arcs _ c.self.invariant.network.light
+          (rw c.deref.ensures.value c.in_ok-added.ensures.light) rows.arcs;
+    }
+
+pub after-landmarks-requires-clause-arcs : goal.after-landmarks-requires-clause-arcs
+after-landmarks-requires-clause-arcs c =
+    rw c.deref-in-Some.ensures.value (rw c.deref.ensures.value at c.in_ok-rows.ensures.arcs)
 
 pub invariant_of-result : goal.invariant_of-result
 invariant_of-result c =
-    let before = c.self.inside.rows in
     let rows = c.in_ok-rows.rows in
-    let IsLight = λ (arc : ArcRec). arc.weight < 2 ^ 32 in
     record {
       network = record {
         few = c.in_ok-rows.ensures.in_rows.vertices;
         ends = c.in_ok-rows.ensures.in_rows.ends;
         light =
-            over-same IsLight rows.arcs _ c.in_ok-rows.ensures.arcs
-            (All-append IsLight (without c.args.removed.now before.arcs) _
-            (All-filter _ IsLight before.arcs c.self.invariant.network.light)
-            (rw c.deref.ensures.value c.in_ok-added.ensures.light));
+            light-after c.args.removed.now c.self.inside.rows.arcs rows.arcs _ c.self.invariant.network.light
+            (rw c.deref.ensures.value c.in_ok-added.ensures.light) c.in_ok-rows.ensures.arcs;
         added_ends = subst (IsGraph rows.n) (sym c.new.ensures.items) (All-nil (IsArcBelow rows.n));
       };
       turned = tt;
-      told = tt;
+      told =
+          elim c.match-self.branch [
+            | in-Some w ↦ rw w.landmarks-is w.after-landmarks.ensures
+            | in-None w ↦ rw w.landmarks-is tt
+          ];
       contracted = tt;
     }
 

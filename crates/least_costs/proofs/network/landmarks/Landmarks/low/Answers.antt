@@ -14,7 +14,7 @@ loop-i-preserved c =
     let i = c.loop-i.i in
     let x = c.lowest.result in
     let told : All (λ t. x ≤ column seen.count seen.cells i t) targets =
-    rw (← c.self.view_is) (rw c.deref.ensures.value at c.lowest.ensures) in
+    rw (← c.self.view_is) (rw (rw (← c.self.view_is) at c.cells.ensures) at c.lowest.ensures) in
     rw c.in_ok-push.ensures.items
     (record {
       count = omega (arith, length_push low x, c.loop-i.invariant.count);

@@ -8,10 +8,10 @@ returns-clause-bounds c =
     rw (← c.self.view_is)
     (landmarks-bound _ (record {
       targets = c.args.targets;
-      cells = c.deref.result;
+      cells = c.cells-cells.result;
       low = c.args.low;
       high = c.args.high;
       unit = c.self.inside.unit;
       base = c.bound-base.result;
     }) c.self.invariant (rw (← c.self.view_is) at c.requires.targets) (rw (← c.self.view_is) at c.requires.low)
-    (rw (← c.self.view_is) at c.requires.high) c.deref.ensures.value refl)
+    (rw (← c.self.view_is) at c.requires.high) (rw (← c.self.view_is) at c.cells-cells.ensures) refl)
