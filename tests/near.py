@@ -3,8 +3,8 @@
 
 Sessions with walks on graphs of several shapes: a grid, one with free arcs, random arcs, a few hubs, and a long path.
 In each one COUNT questions in random order, of pairs with and without walks, of several pairs of one source, and
-within bounds, near ones and far ones, with arcs added between; two sessions choose landmarks after a few far pairs,
-and one makes a hierarchy at first and after each change. What is expected comes from whole rows of the sources, which
+within bounds, near ones and far ones. Between them arcs are added, close, slow down and are again as they were; two
+sessions choose landmarks after a few far pairs, and one makes a hierarchy at first and after each change. What is expected comes from whole rows of the sources, which
 workers give: a request for all lines of a source is never searched. The same by a job with many sources of pairs. It
 prints what is wrong first, and the status is 1 then.
 """
@@ -124,23 +124,50 @@ def without_walks(lines):
     return [line for line in lines if not line.startswith("w")]
 
 
+def arcs_text(words, arcs):
+    """A request with these arcs."""
+    return f"p aux sp {words} {len(arcs)}\n" + "".join(f"a {a} {b} {w}\n" for a, b, w in arcs)
+
+
+def changes(draw, n, arcs):
+    """Requests that change a graph, and its arcs after them: new ones, some that close, some that slow down, all of these
+    as they were, and new ones again. Landmarks outlive but the new ones."""
+    new = lambda: [(draw.randint(1, n), draw.randint(1, n), draw.randint(0, 9)) for _ in range(draw.randint(1, 5))]
+    added = new()
+    arcs = arcs + added
+    yield [arcs_text("add", added)], arcs
+    ends = sorted({arc[:2] for arc in draw.sample(arcs, min(len(arcs), draw.randint(2, 40)))})
+    closed, slowed = set(ends[::2]), set(ends[1::2])
+    gone = [arc for arc in arcs if arc[:2] in closed]
+    left = [arc for arc in arcs if arc[:2] not in closed]
+    yield [f"p aux sp cut {len(closed)}\n" + "".join(f"q {a} {b}\n" for a, b in closed)], left
+    before = [arc for arc in left if arc[:2] in slowed]
+    slower = [(a, b, min(2 * w + 1, 4294967295)) for a, b, w in before]
+    others = [arc for arc in left if arc[:2] not in slowed]
+    yield [arcs_text("set", slower)], others + slower
+    yield [arcs_text("add", gone), arcs_text("set", before)], others + before + gone
+    added = new()
+    yield [arcs_text("add", added)], others + before + gone + added
+
+
 def check(program, name, n, arcs, count, seed):
-    """One session, in which arcs are added four times, and a job of its pairs in each graph."""
+    """One session, whose arcs change five times, and a job of its pairs in each graph."""
     draw = random.Random(seed)
+    after = changes(draw, n, arcs)
     walked = Session(program, graph_text(n, arcs), "--walks", "--workers", draw.choice("124"))
     plain = Session(program, graph_text(n, arcs), "--workers", draw.choice("12"), "--landmarks", "0")
     guided = Session(program, graph_text(n, arcs), "--workers", draw.choice("124"), "--landmarks", draw.choice("123"))
     above = Session(program, graph_text(n, arcs), "--workers", draw.choice("124"), "--hierarchy", "now")
     few = Session(program, graph_text(n, arcs), "--walks", "--workers", draw.choice("12"), "--landmarks", draw.choice("123"))
-    for part in range(5):
+    for part in range(6):
         if part:
-            added = [(draw.randint(1, n), draw.randint(1, n), draw.randint(0, 9)) for _ in range(draw.randint(1, 5))]
-            arcs = arcs + added
+            requests, arcs = next(after)
             for session in (walked, few, plain, guided, above):
-                session.ask(f"p aux sp add {len(added)}\n" + "".join(f"a {a} {b} {w}\n" for a, b, w in added))
+                for request in requests:
+                    session.ask(request)
         rows = rows_of(walked, draw.sample(range(1, n + 1), min(SOURCES, n)))
         pairs = []
-        for _ in range(count // 5):
+        for _ in range(count // 6):
             request, lines = question(draw, n, rows)
             costs = without_walks(lines)
             for session, wanted in ((walked, lines), (few, lines), (plain, costs), (guided, costs), (above, costs)):
