@@ -54,11 +54,12 @@ def change(graph, end, draw):
     while time.monotonic() < end:
         if closed is None:
             tail = draw.randrange(graph.n)
-            heads, weights = graph.neighbors(tail)
+            heads = graph.neighbors(tail)
             if not len(heads):
                 continue
-            closed = (tail, int(heads[0]), int(weights[0]))
-            graph.remove([closed[:2]])
+            head = int(heads[0])
+            closed = (tail, head, graph.weight(tail, head))
+            graph.remove([(tail, head)])
         else:
             graph.add_edges([closed])
             closed = None
@@ -117,7 +118,7 @@ def what_ifs(path):
                 before = time.perf_counter()
                 graph.distance(source, target)
                 alone.append(1000 * (time.perf_counter() - before))
-                heads, _ = graph.neighbors(source)
+                heads = graph.neighbors(source)
                 if len(heads):
                     before = time.perf_counter()
                     with graph.changed(remove=[(source, int(heads[0]))]):

@@ -138,7 +138,8 @@ impl Network {
 
     /// Makes the network without the arcs that lead from the first vertex of a pair to the second, and with more arcs,
     /// by the same cost. All other arcs stay. The added arcs come last in each row. Shares landmarks with this one, if each
-    /// added arc takes the place of a cheaper one that led between its ends as they were chosen, and else has none.
+    /// added arc takes the place of a cheaper one that led between its ends as they were chosen, and else has none. Has no
+    /// hierarchy.
     ///
     /// # Errors
     ///
@@ -163,11 +164,12 @@ impl Network {
             Some(told) => told.after(alloc, &self.rows, &rows, removed, &added),
             None => None,
         };
+        let changes = removed.len().max(added.len());
         Ok(Network {
             rows,
             reversed: None,
             landmarks,
-            shortcuts: None,
+            shortcuts: Shortcuts::after(&self.shortcuts, changes),
             cost: self.cost,
             added: Vec::new(alloc),
         })

@@ -1,4 +1,4 @@
-//! Landmarks and changes: those that outlive one tell of the changed network, and the others are gone.
+//! Landmarks, hierarchies and changes: landmarks that outlive one tell of the changed network, and what does not is gone.
 
 use crate::asked::draws::Draws;
 use crate::asked::kept::are_within;
@@ -146,4 +146,29 @@ fn landmarks_go_with_a_change_of_many_pairs(rt: HostRuntime) -> Result<(), Fail>
     let many = vec![in alloc; (0_u32, 0_u32); PAIRS_OF_NO_ARC]?;
     let same = network.changed(alloc, many.as_slice(), &[])?;
     expect_kept(&rt, alloc, &same, &pairs, false)
+}
+
+#[test]
+fn a_hierarchy_that_was_given_up_is_tried_after_a_large_change(
+    rt: HostRuntime,
+) -> Result<(), Fail> {
+    let alloc = rt.alloc();
+    let (mut network, closing, _) = begun(&rt, alloc, 6)?;
+    assert!(rt; !network.make_hierarchy(alloc, 0) && network.was_contracted());
+    let closed = network.changed(alloc, &closing.ends, &[])?;
+    assert!(rt; closed.was_contracted() && !closed.has_hierarchy());
+    let many = vec![in alloc; (0_u32, 0_u32); PAIRS_OF_NO_ARC]?;
+    let same = closed.changed(alloc, many.as_slice(), &[])?;
+    assert!(rt; !same.was_contracted());
+    Ok(())
+}
+
+#[test]
+fn a_hierarchy_goes_with_a_change(rt: HostRuntime) -> Result<(), Fail> {
+    let alloc = rt.alloc();
+    let (mut network, closing, _) = begun(&rt, alloc, 7)?;
+    assert!(rt; network.make_hierarchy(alloc, usize::MAX));
+    let closed = network.changed(alloc, &closing.ends, &[])?;
+    assert!(rt; !closed.was_contracted() && !closed.has_hierarchy());
+    Ok(())
 }

@@ -1,4 +1,6 @@
 use Rattle.std.proofs.Common.{◌≡◌, ◌∙◌, ◌++◌, ◌<◌, ◌^◌, List, ℕ, ap, subst, sym}
+use Rattle.std.specs.Prelude.{IfSome, IsNone, None, Option, Some}
+use Rattle.std.proofs.lemmas.Bool.{false≢true}
 use Rattle.std.proofs.lemmas.List.Elements.{All-append, All-filter, All-nil}
 use Rattle.csr_graph.specs.Graph.{HaveSameRows}
 use Rattle.route_walks.proofs.Facts.{same_arcs-append, same_arcs-trans}
@@ -7,10 +9,23 @@ use Rattle.route_walks.specs.Walk.{HaveSameArcs, IsArcBelow, IsGraph}
 use Rattle.least_costs.specs.declared.cost.Cost.{Cost}
 use Rattle.csr_graph.specs.Changes.{without}
 use Rattle.least_costs.specs.Network.{AreLight, NetworkSeen, arcs_of}
+use Rattle.least_costs.specs.Rows.{AreShortcutsOf}
+use Rattle.least_costs.specs.declared.network.shortcuts.Shortcuts.{Shortcuts}
 use Rattle.least_costs.proofs.Networks.{over-same}
 use Rattle.least_costs.proofs.SameRows.{changed_arcs, same_arcs-filter}
 use Rattle.least_costs.proofs.network.Network.changed.Goals.{in-Some, in-None}
 use Rattle.least_costs.proofs.network.Network.changed.Goals as goal
+
+-- none is of any kind
+none-of : {X : Type 0} (P : X → Type 0) (found : Option X) → IsNone found → IfSome found P
+none-of P None none = tt
+none-of P (Some x) none = absurd (false≢true (sym none))
+
+-- no hierarchy tells of any network
+none-shortcuts : (net : NetworkSeen) (shortcuts : Option Shortcuts) → IfSome shortcuts (λ s. IsNone s.hierarchy)
+    → IfSome shortcuts (AreShortcutsOf net)
+none-shortcuts net None none = tt
+none-shortcuts net (Some s) none = none-of _ s.hierarchy none
 
 -- the weights stay small
 light-after : (removed : List (ℕ × ℕ)) (before after added : List ArcRec) → AreLight before → AreLight added
@@ -53,7 +68,9 @@ invariant_of-result c =
             | in-Some w ↦ rw w.landmarks-is w.after-landmarks.ensures
             | in-None w ↦ rw w.landmarks-is tt
           ];
-      contracted = tt;
+      contracted =
+          none-shortcuts
+          (record { n = rows.n; cost = c.self.inside.cost; arcs = rows.arcs; added = c.new.result.items }) _ c.after.ensures;
     }
 
 pub returns-clause-arcs : goal.returns-clause-arcs
