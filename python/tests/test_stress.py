@@ -3,6 +3,7 @@
 HOLLOWBOWL_SEED draws what another run drew, as far as threads allow.
 """
 
+import contextlib
 import os
 import random
 import signal
@@ -155,7 +156,9 @@ class One:
         if chance == 0:
             numbers = [number for number, words in children().items() if "--session" in words]
             if numbers:
-                os.kill(draw.choice(numbers), signal.SIGKILL)
+                # It may have ended since it was found.
+                with contextlib.suppress(ProcessLookupError):
+                    os.kill(draw.choice(numbers), signal.SIGKILL)
         elif chance == 1:
             self.add(graph, draw)
         elif chance == 2:
